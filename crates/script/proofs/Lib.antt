@@ -1,0 +1,2 @@
+mod Every
+mod Pairs

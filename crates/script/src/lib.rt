@@ -1,0 +1,2 @@
+// One line of a workbench script: what it asks for, and what is printed for it.
+pub mod hex;
