@@ -1,2 +1,3 @@
 mod Every
+mod Fronts
 mod Pairs
