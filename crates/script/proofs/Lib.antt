@@ -1,3 +1,3 @@
 mod Every
-mod Fronts
 mod Pairs
+mod Sizes

@@ -2,7 +2,8 @@
 ghost use mathlib.Core.Path.{_≡_};
 ghost use Prim.Native.Nat.{_≤_};
 ghost use lib.ListN.{length};
-ghost use Rattle.script.specs.Words.{is-space, is-other, front, word, left};
+ghost use Rattle.std.specs.shelf.Lists.{leading};
+ghost use Rattle.script.specs.Words.{is-space, is-other, word, left};
 
 // What is left to read of a line.
 #[derive(Clone, Copy)]
@@ -12,7 +13,7 @@ pub struct Words<'a> {
 
 // How many spaces stand at the front.
 fn spaces(line: &[u8]) -> usize
-    ensures value { λ r. ⌜ r ≡ front is-space (now (line .entry)) ⌝ }
+    ensures value { λ r. ⌜ r ≡ leading is-space (now (line .entry)) ⌝ }
     ensures within { λ r. ⌜ r ≤ length (now (line .entry)) ⌝ }
 {
     for (i, b) in line.iter().enumerate() {
@@ -25,7 +26,7 @@ fn spaces(line: &[u8]) -> usize
 
 // How many bytes stand before the first space.
 fn word_length(line: &[u8]) -> usize
-    ensures value { λ r. ⌜ r ≡ front is-other (now (line .entry)) ⌝ }
+    ensures value { λ r. ⌜ r ≡ leading is-other (now (line .entry)) ⌝ }
     ensures within { λ r. ⌜ r ≤ length (now (line .entry)) ⌝ }
 {
     for (i, b) in line.iter().enumerate() {

@@ -1,8 +1,9 @@
 use mathlib.Core.Path.{_≡_}
 use Prim.Native.Nat.{_+_}
 use lib.ListN.{drop}
-use Rattle.script.specs.Words.{front, is-space}
+use Rattle.std.specs.shelf.Lists.{leading}
+use Rattle.script.specs.Words.{is-space}
 use Rattle.script.proofs.words.spaces.Given as given
 
 abbrev pub Inv-loop-i : given.InvT-loop-i
-Inv-loop-i l = l .i + front is-space (drop (l .i) (l .line)) ≡ front is-space (l .line)
+Inv-loop-i l = l .i + leading is-space (drop (l .i) (l .line)) ≡ leading is-space (l .line)
