@@ -1,3 +1,4 @@
+mod Arguments
 mod Every
 mod Pairs
 mod Sizes
