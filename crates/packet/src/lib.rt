@@ -1,0 +1,4 @@
+// ALC/FD packets: the check kinds, the reader and the writer.
+pub mod checks;
+pub mod letter;
+pub mod refusal;
