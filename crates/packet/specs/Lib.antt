@@ -1,4 +1,5 @@
 pub mod Bytes
 pub mod Checks
+pub mod Format
 pub mod Letters
 pub mod Refusals
