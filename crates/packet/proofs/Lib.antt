@@ -1,1 +1,5 @@
 pub mod Folds
+pub mod Judging
+pub mod Readings
+pub mod Roundtrip
+pub mod Alterations

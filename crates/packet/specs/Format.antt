@@ -23,32 +23,32 @@ packet check l f = (0x02 ∷ covered l f) ++ check (covered l f)
 abbrev pub field-rules : ℕ → List ℕ → List Rule
 field-rules l f = not (fits l (length f)) ⇒ 4 ∷ not (allowed l f) ⇒ 5 ∷ []
 
--- a kind with c check bytes
-module _ (c : ℕ) (check : List ℕ → List ℕ) where
-  -- the parts of a burst, counted from its end
-  abbrev pub field-of : List ℕ → List ℕ
-  field-of b = take (length b - c - 3) (drop 2 b)
+-- the parts of a burst that ends in c check bytes, counted from its end
+module _ (c : ℕ) (b : List ℕ) where
+  abbrev pub field-of : List ℕ
+  field-of = take (length b - c - 3) (drop 2 b)
 
-  abbrev pub covered-of : List ℕ → List ℕ
-  covered-of b = take (length b - c - 1) (drop 1 b)
+  abbrev pub covered-of : List ℕ
+  covered-of = take (length b - c - 1) (drop 1 b)
 
-  abbrev pub end-byte : List ℕ → ℕ
-  end-byte b = getD b (length b - c - 1) 0
+  abbrev pub end-byte : ℕ
+  end-byte = getD b (length b - c - 1) 0
 
-  abbrev pub check-of : List ℕ → List ℕ
-  check-of b = drop (length b - c) b
+  abbrev pub check-of : List ℕ
+  check-of = drop (length b - c) b
 
-  abbrev pub end-rules : List ℕ → List Rule
-  end-rules b = not (eqb (end-byte b) 0x03) ⇒ 6 ∷ not (sameBytes (check-of b) (check (covered-of b))) ⇒ 7 ∷ []
+  abbrev pub parts-of : Parts
+  parts-of = parts (getD b 1 0) 2 field-of
 
-  abbrev pub reading : List ℕ → Answer Parts
-  reading b =
-      judged (
-        not (between (3 + c) (99 + c) (length b)) ⇒ 1
-        ∷ not (eqb (getD b 0 0) 0x02) ⇒ 2
-        ∷ not (known (getD b 1 0)) ⇒ 3
-        ∷ (field-rules (getD b 1 0) (field-of b) ++ end-rules b)
-      ) (parts (getD b 1 0) 2 (field-of b))
+abbrev pub start-rules : ℕ → List ℕ → List Rule
+start-rules c b = not (between (3 + c) (99 + c) (length b)) ⇒ 1 ∷ not (eqb (getD b 0 0) 0x02) ⇒ 2 ∷ not (known (getD b 1 0)) ⇒ 3 ∷ []
+
+abbrev pub end-rules : ℕ → (List ℕ → List ℕ) → List ℕ → List Rule
+end-rules c check b = not (eqb (end-byte c b) 0x03) ⇒ 6 ∷ not (sameBytes (check-of c b) (check (covered-of c b))) ⇒ 7 ∷ []
+
+-- reading a burst, by a kind with c check bytes
+abbrev pub reading : ℕ → (List ℕ → List ℕ) → List ℕ → Answer Parts
+reading c check b = judged (start-rules c b ++ (field-rules (getD b 1 0) (field-of c b) ++ end-rules c check b)) (parts-of c b)
 
 -- writing a letter and a field, with c check bytes, into a buffer of n bytes: the packet's length
 abbrev pub writing : ℕ → ℕ → List ℕ → ℕ → Answer ℕ

@@ -1,4 +1,5 @@
 // ALC/FD packets: the check kinds, the reader and the writer.
 pub mod checks;
 pub mod letter;
+pub mod reader;
 pub mod refusal;
