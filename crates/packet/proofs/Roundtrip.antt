@@ -12,7 +12,7 @@ use Rattle.std.proofs.shelf.Lists.{append-assoc, take-at, drop-at, getD-at, dro
 use Rattle.std.proofs.shelf.Tests.{eqb-true, le-ltb, not-false}
 use Rattle.std.proofs.shelf.Ways.{tells}
 use Rattle.packet.specs.Letters.{between, known, fits, allowed}
-use Rattle.packet.specs.Format.{Parts, parts, parts-of, field-of, covered-of, end-byte, check-of, covered, packet, field-rules, start-rules, end-rules, reading, writing}
+use Rattle.packet.specs.Format.{Parts, parts, parts-of, field-of, covered-of, end-byte, check-of, covered, packet, field-rules, start-rules, end-rules, reading, writing-rules, writing}
 use Rattle.packet.specs.Laws.{Makes, Read-as-written, Reads-back}
 use Rattle.packet.specs.Refusals.{Answer, refused, gave, Rule, _⇒_, judged}
 use Rattle.packet.proofs.Judging.{Passed, all-past, passed}
@@ -22,6 +22,9 @@ pub record Accepted (l : ℕ) (f : List ℕ) : Type 0 where
   pub letter : known l ≡ true
   pub size : fits l (length f) ≡ true
   pub bytes : allowed l f ≡ true
+
+pub taken : (c l : ℕ) (f : List ℕ) (n : ℕ) → Passed (writing-rules c l f n) → Accepted l f
+taken c l f n p = record { letter = not-false _ (p .0); size = not-false _ (p .1 .0); bytes = not-false _ (p .1 .1 .0) }
 
 pub covered-long : (l : ℕ) (f : List ℕ) → length (covered l f) ≡ length f + 2
 covered-long l f = omega (arith, length-append f (3 ∷ []))
@@ -54,15 +57,13 @@ module _ (c : ℕ) (check : List ℕ → List ℕ) (sized : (xs : List ℕ) → 
   packet-long l f = omega (arith, length-append (2 ∷ covered l f) (check (covered l f)), covered-long l f, sized (covered l f))
 
   pub accepted : (l : ℕ) (f b : List ℕ) → Makes c check l f b → Accepted l f
-  accepted l f b m =
-      let p = passed (not (known l) ⇒ 3 ∷ (field-rules l f ++ (ltb (length b) (length f + 3 + c) ⇒ 29 ∷ []))) (length f + 3 + c) (length b) (sym (m .0)) .0 in
-      record { letter = not-false _ (p .0); size = not-false _ (p .1 .0); bytes = not-false _ (p .1 .1 .0) }
+  accepted l f b m = taken c l f (length b) (passed (writing-rules c l f (length b)) (length f + 3 + c) (length b) (sym (m .0)) .0)
 
   pub makes : (l : ℕ) (f b : List ℕ) → Accepted l f → packet check l f ≡ b → Makes c check l f b
   makes l f b a e =
       let n : length f + 3 + c ≡ length b = sym (packet-long l f) ∙ ap length e in
       let enough = le-ltb (length b) (length f + 3 + c) (omega arith) in
-      let goes = all-past (not (known l) ⇒ 3 ∷ (field-rules l f ++ (ltb (length b) (length f + 3 + c) ⇒ 29 ∷ []))) (length f + 3 + c) (ap not (a .letter), (ap not (a .size), (ap not (a .bytes), (enough, tt)))) in
+      let goes = all-past (writing-rules c l f (length b)) (length f + 3 + c) (ap not (a .letter), (ap not (a .size), (ap not (a .bytes), (enough, tt)))) in
       (goes ∙ ap (λ (k : ℕ). gave k) n, e)
 
   pub reads-back : (l : ℕ) (f : List ℕ) → Accepted l f → reading c check (packet check l f) ≡ gave (parts l 2 f)

@@ -51,8 +51,11 @@ abbrev pub reading : ℕ → (List ℕ → List ℕ) → List ℕ → Answer Par
 reading c check b = judged (start-rules c b ++ (field-rules (getD b 1 0) (field-of c b) ++ end-rules c check b)) (parts-of c b)
 
 -- writing a letter and a field, with c check bytes, into a buffer of n bytes: the packet's length
+abbrev pub writing-rules : ℕ → ℕ → List ℕ → ℕ → List Rule
+writing-rules c l f n = not (known l) ⇒ 3 ∷ (field-rules l f ++ (ltb n (length f + 3 + c) ⇒ 29 ∷ []))
+
 abbrev pub writing : ℕ → ℕ → List ℕ → ℕ → Answer ℕ
-writing c l f n = judged (not (known l) ⇒ 3 ∷ (field-rules l f ++ (ltb n (length f + 3 + c) ⇒ 29 ∷ []))) (length f + 3 + c)
+writing c l f n = judged (writing-rules c l f n) (length f + 3 + c)
 
 -- the buffer afterwards: the packet and the bytes beyond it, or after a refusal as it was
 abbrev pub after-writing : Answer ℕ → List ℕ → List ℕ → List ℕ

@@ -3,3 +3,4 @@ pub mod checks;
 pub mod letter;
 pub mod reader;
 pub mod refusal;
+pub mod writer;
