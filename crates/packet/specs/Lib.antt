@@ -5,3 +5,4 @@ pub mod Laws
 pub mod Letters
 pub mod Packets
 pub mod Refusals
+pub mod Worked

@@ -3,4 +3,5 @@ pub mod checks;
 pub mod letter;
 pub mod reader;
 pub mod refusal;
+pub mod worked;
 pub mod writer;
