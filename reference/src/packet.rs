@@ -56,56 +56,25 @@ impl Kind {
     }
 }
 
-/// What an operation letter asks of its field.
-struct Rule {
-    letter: u8,
-    lengths: RangeInclusive<usize>,
-    bytes: RangeInclusive<u8>,
-}
+/// A letter, the lengths that its field may have, and the range of its bytes.
+type Rule = (u8, RangeInclusive<usize>, RangeInclusive<u8>);
 
 const RULES: [Rule; 6] = [
-    empty(b'E'),
-    message(b'0'),
-    message(b'1'),
-    credit(b'A'),
-    credit(b'B'),
-    empty(b'R'),
+    (b'E', 0..=0, 0x00..=0xFF),
+    (b'0', 1..=LONGEST, 0x20..=0x7E),
+    (b'1', 1..=LONGEST, 0x20..=0x7E),
+    (b'A', 1..=1, 0x30..=0x38),
+    (b'B', 1..=1, 0x30..=0x38),
+    (b'R', 0..=0, 0x00..=0xFF),
 ];
-
-const fn empty(letter: u8) -> Rule {
-    let (lengths, bytes) = (0..=0, 0x00..=0xFF);
-    Rule {
-        letter,
-        lengths,
-        bytes,
-    }
-}
-
-const fn message(letter: u8) -> Rule {
-    let (lengths, bytes) = (1..=LONGEST, 0x20..=0x7E);
-    Rule {
-        letter,
-        lengths,
-        bytes,
-    }
-}
-
-const fn credit(letter: u8) -> Rule {
-    let (lengths, bytes) = (1..=1, 0x30..=0x38);
-    Rule {
-        letter,
-        lengths,
-        bytes,
-    }
-}
 
 /// The conditions on letter and field that reader and writer share. Length and
 /// bytes are judged under a known letter only.
 fn field_conditions(letter: Option<u8>, field: &[u8]) -> [Condition; 3] {
-    let rule = RULES.iter().find(|rule| letter == Some(rule.letter));
-    let length_is_wrong = rule.is_some_and(|rule| !rule.lengths.contains(&field.len()));
+    let rule = RULES.iter().find(|(known, ..)| letter == Some(*known));
+    let length_is_wrong = rule.is_some_and(|(_, lengths, _)| !lengths.contains(&field.len()));
     let byte_is_wrong =
-        rule.is_some_and(|rule| !field.iter().all(|byte| rule.bytes.contains(byte)));
+        rule.is_some_and(|(.., range)| field.iter().any(|byte| !range.contains(byte)));
     [
         (Refusal::Letter, rule.is_none()),
         (Refusal::FieldLength, length_is_wrong),
@@ -147,12 +116,9 @@ pub fn read(kind: Kind, burst: &[u8]) -> Result<Packet<'_>, Refusal> {
 /// Writes a packet to the front of `place` and answers its length.
 pub fn write(kind: Kind, letter: u8, field: &[u8], place: &mut [u8]) -> Result<usize, Refusal> {
     let length = PLACE + field.len() + 1 + kind.width();
-    let room = (Refusal::Room, place.len() < length);
-    judge(
-        field_conditions(Some(letter), field)
-            .into_iter()
-            .chain([room]),
-    )?;
+    let room = [(Refusal::Room, place.len() < length)];
+    let conditions = field_conditions(Some(letter), field);
+    judge(conditions.into_iter().chain(room))?;
     place[..length].copy_from_slice(&assemble(kind, letter, field));
     Ok(length)
 }

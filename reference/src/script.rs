@@ -208,18 +208,15 @@ fn bytes(word: &[u8]) -> Result<Vec<u8>, Error> {
         return Ok(Vec::new());
     }
     // Digits are judged before memory is asked for.
-    if word.len() % 2 != 0 || !word.iter().all(u8::is_ascii_hexdigit) {
+    let pairs = word.chunks_exact(2);
+    if !pairs.remainder().is_empty() || !word.iter().all(u8::is_ascii_hexdigit) {
         return Err(Error::Bytes);
     }
     let mut bytes = Vec::new();
-    let length = word.len() / 2;
     bytes
-        .try_reserve_exact(length)
+        .try_reserve_exact(pairs.len())
         .map_err(|_| Error::OutOfMemory)?;
-    bytes.extend(
-        word.chunks_exact(2)
-            .filter_map(|digits| pair(digits[0], digits[1])),
-    );
+    bytes.extend(pairs.filter_map(|digits| pair(digits[0], digits[1])));
     Ok(bytes)
 }
 
