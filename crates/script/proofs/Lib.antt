@@ -1,4 +1,1 @@
-mod Arguments
-mod Every
-mod Pairs
-mod Sizes
+mod Readings

@@ -11,9 +11,9 @@ use Rattle.std.specs.declared.option.Option.the-variants.{Some, None}
 use Rattle.std.specs.declared.result.Result.{Result}
 use Rattle.std.specs.declared.result.Result.the-variants.{Ok, Err}
 use Rattle.std.specs.shelf.Text.{sameBytes}
-use Rattle.script.specs.Hex.{are-pairs, byte, unhex}
-use Rattle.script.specs.Numbers.{size}
-use Rattle.script.specs.Words.{trimmed, word, left}
+use Rattle.notation.specs.Hex.{are-pairs, byte, unhex}
+use Rattle.notation.specs.Numbers.{size}
+use Rattle.notation.specs.Words.{trimmed, word, left}
 use Rattle.script.specs.declared.command.Kind.{Kind}
 use Rattle.script.specs.declared.command.Kind.the-variants.{Sum, Xor}
 use Rattle.script.specs.declared.fault.Fault.{Fault}

@@ -4,7 +4,7 @@ use Prim.Native.Nat.{ℕ}
 use Rattle.std.specs.declared.result.Result.{Result}
 use Rattle.std.specs.declared.result.Result.the-variants.{Ok, Err}
 use Rattle.script.specs.Commands.{Request, nothing, read, write}
-use Rattle.script.specs.Hex.{decoded}
+use Rattle.notation.specs.Hex.{decoded}
 use Rattle.script.specs.declared.command.Bytes.{Bytes}
 use Rattle.script.specs.declared.command.Bytes.the-variants.{Pairs, Text}
 use Rattle.script.specs.declared.command.Command.{Command}

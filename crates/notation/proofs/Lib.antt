@@ -1,0 +1,3 @@
+mod Every
+mod Pairs
+mod Sizes

@@ -1,0 +1,50 @@
+// The words of a line: the longest runs of bytes other than the space.
+ghost use mathlib.Core.Path.{_≡_};
+ghost use Prim.Native.Nat.{_≤_};
+ghost use lib.ListN.{length};
+ghost use Rattle.std.specs.shelf.Lists.{leading};
+ghost use Rattle.notation.specs.Words.{is-space, is-other, trimmed, word, left};
+
+// How many spaces stand at the front.
+fn spaces(line: &[u8]) -> usize
+    ensures value { λ r. ⌜ r ≡ leading is-space (now (line .entry)) ⌝ }
+    ensures within { λ r. ⌜ r ≤ length (now (line .entry)) ⌝ }
+{
+    for (i, b) in line.iter().enumerate() {
+        if *b != b' ' {
+            return i;
+        }
+    }
+    line.len()
+}
+
+// How many bytes stand before the first space.
+fn word_length(line: &[u8]) -> usize
+    ensures value { λ r. ⌜ r ≡ leading is-other (now (line .entry)) ⌝ }
+    ensures within { λ r. ⌜ r ≤ length (now (line .entry)) ⌝ }
+{
+    for (i, b) in line.iter().enumerate() {
+        if *b == b' ' {
+            return i;
+        }
+    }
+    line.len()
+}
+
+// The line after its leading spaces.
+pub fn trimmed(line: &[u8]) -> &[u8]
+    ensures value { λ r. ⌜ now r ≡ trimmed (now (line .entry)) ⌝ }
+    ensures within { λ r. ⌜ length (now r) ≤ length (now (line .entry)) ⌝ }
+{
+    let (_, rest) = line.split_at(spaces(line));
+    rest
+}
+
+// The first word, with no bytes where there is none, and what follows it.
+pub fn split_word(line: &[u8]) -> (&[u8], &[u8])
+    ensures word { λ r. ⌜ now (r .0) ≡ word (now (line .entry)) ⌝ }
+    ensures left { λ r. ⌜ now (r .1) ≡ left (now (line .entry)) ⌝ }
+{
+    let line = trimmed(line);
+    line.split_at(word_length(line))
+}
