@@ -1,1 +1,3 @@
 mod Readings
+mod Shown
+mod Writings

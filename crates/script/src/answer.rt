@@ -1,0 +1,50 @@
+// What is printed for a call's answer.
+ghost use mathlib.Core.Path.{_≡_};
+ghost use lib.ListN.{length};
+ghost use Rattle.std.specs.Of.String.{string-bytes};
+ghost use Rattle.std.specs.Vec.{made};
+ghost use Rattle.std.specs.declared.result.Result.the-variants.{Err};
+ghost use Rattle.packet.specs.Packets.{told as packet-told};
+ghost use Rattle.packet.specs.Refusals.{gave, number-of};
+ghost use Rattle.script.specs.Printed.{refusal, read-line, write-line, said};
+use crate::fault::Fault;
+use notation::hex::hex;
+use packet::reader::Packet;
+use packet::refusal::Refusal;
+use std::alloc::AllocError;
+use std::alloc::Global;
+
+pub fn refused(heap: Global, why: Refusal) -> Result<String, AllocError>
+    ensures { λ r. ⌜ made r (λ s. string-bytes s ≡ refusal (number-of why)) ⌝ }
+{
+    let number = why.number();
+    format!(heap, "refused {number}\n")
+}
+
+pub fn read(heap: Global, packet: Packet<'_>) -> Result<String, AllocError>
+    ensures { λ r. ⌜ made r (λ s. string-bytes s ≡ read-line (gave (packet-told (packet .entry)))) ⌝ }
+{
+    let letter = packet.letter.byte() as char;
+    let place = packet.place;
+    let length = packet.field.len();
+    let field = hex(heap, packet.field)?;
+    format!(
+        heap,
+        "letter={letter} place={place} length={length} field={field}\n"
+    )
+}
+
+pub fn written(heap: Global, burst: &[u8]) -> Result<String, AllocError>
+    ensures { λ r. ⌜ made r (λ s. string-bytes s ≡ write-line (gave (length (now (burst .entry)))) (now (burst .entry))) ⌝ }
+{
+    let length = burst.len();
+    let burst = hex(heap, burst)?;
+    format!(heap, "length={length} burst={burst}\n")
+}
+
+pub fn wrong(heap: Global, fault: Fault) -> Result<String, AllocError>
+    ensures { λ r. ⌜ made r (λ s. string-bytes s ≡ said (Err fault)) ⌝ }
+{
+    let text = fault.text();
+    format!(heap, "error: {text}\n")
+}
