@@ -1,3 +1,1 @@
 mod Readings
-mod Shown
-mod Writings

@@ -1,6 +1,4 @@
-// One line of a workbench script: what it asks for, and what is printed for it.
-pub mod answer;
+// What a line of a workbench script asks for.
 pub mod arguments;
 pub mod command;
 pub mod fault;
-pub mod run;

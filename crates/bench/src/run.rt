@@ -5,14 +5,10 @@ ghost use Rattle.std.specs.Of.String.{string-bytes};
 ghost use Rattle.std.specs.Of.Vec.{vec-items};
 ghost use Rattle.std.specs.Vec.{made};
 ghost use Rattle.packet.specs.Format.{packet, reading, writing};
-ghost use Rattle.script.specs.Printed.{read-line, write-line, answered, printed};
+ghost use Rattle.bench.specs.Printed.{read-line, write-line, answered, printed};
 ghost use Rattle.script.specs.Commands.{Request, read, write};
 ghost use Rattle.script.specs.Told.{bytes-of};
 use crate::answer;
-use crate::command::Bytes;
-use crate::command::Command;
-use crate::command::Kind;
-use crate::command::parse;
 use notation::hex::decode;
 use packet::checks::Check;
 use packet::checks::Sum;
@@ -21,25 +17,61 @@ use packet::checks::Xor;
 use packet::checks::XorCheck;
 use packet::reader::read;
 use packet::writer::write;
+use script::command::Bytes;
+use script::command::Command;
+use script::command::Kind;
+use script::command::parse;
 use std::alloc::AllocError;
 use std::alloc::Global;
 
 // What stands in a place before a call is lent it.
 const FILL: u8 = 0xEE;
 
-fn bytes(heap: Global, bytes: Bytes<'_>) -> Result<Vec<u8>, AllocError>
-    ensures { λ r. ⌜ made r (λ v. vec-items v ≡ bytes-of (bytes .entry)) ⌝ }
+// What is printed for a line, which comes without its end: no bytes where nothing is asked.
+pub fn run_line(heap: Global, line: &[u8]) -> Result<String, AllocError>
+    ensures { λ r. ⌜ made r (λ s. string-bytes s ≡ printed (now (line .entry))) ⌝ }
 {
-    match bytes {
-        Bytes::Pairs(pairs) => decode(heap, pairs),
-        Bytes::Text(text) => Vec::from_slice(heap, text),
+    match parse(line) {
+        Ok(Command::Blank) => Ok(String::new(heap)),
+        Ok(Command::PacketRead { kind, burst }) => packet_read(heap, kind, burst),
+        Ok(
+            Command::PacketWrite {
+                kind,
+                letter,
+                field,
+                size,
+            },
+        ) => packet_write(heap, kind, letter, field, size),
+        Err(fault) => answer::wrong(heap, fault),
     }
 }
 
-fn place(heap: Global, size: usize) -> Result<Vec<u8>, AllocError>
-    ensures { λ r. ⌜ made r (λ v. vec-items v ≡ replicate size 0xee) ⌝ }
+// `packet read`
+fn packet_read(heap: Global, kind: Kind, burst: Bytes<'_>) -> Result<String, AllocError>
+    ensures { λ r. ⌜ made r (λ s. string-bytes s ≡ answered (read kind (bytes-of (burst .entry)))) ⌝ }
 {
-    vec![in heap; FILL; size]
+    let burst = bytes(heap, burst)?;
+    match kind {
+        Kind::Sum => read_burst::<Sum>(heap, &burst),
+        Kind::Xor => read_burst::<Xor>(heap, &burst),
+    }
+}
+
+// `packet write`
+fn packet_write(
+    heap: Global,
+    kind: Kind,
+    letter: u8,
+    field: Bytes<'_>,
+    size: usize,
+) -> Result<String, AllocError>
+    ensures { λ r. ⌜ made r (λ s. string-bytes s ≡ answered (write kind letter (bytes-of (field .entry)) size)) ⌝ }
+{
+    let field = bytes(heap, field)?;
+    match kind {
+        Kind::Sum => write_packet::<Sum>(heap, letter, &field, size),
+        Kind::Xor => write_packet::<Xor>(heap, letter, &field, size),
+    }
 }
 
 fn read_burst<K: Check>(heap: Global, burst: &[u8]) -> Result<String, AllocError>
@@ -66,47 +98,19 @@ fn write_packet<K: Check>(
     }
 }
 
-// What is printed for a line, which comes without its end: no bytes where nothing is asked.
-pub fn run_line(heap: Global, line: &[u8]) -> Result<String, AllocError>
-    ensures { λ r. ⌜ made r (λ s. string-bytes s ≡ printed (now (line .entry))) ⌝ }
+// The bytes that a line writes.
+fn bytes(heap: Global, bytes: Bytes<'_>) -> Result<Vec<u8>, AllocError>
+    ensures { λ r. ⌜ made r (λ v. vec-items v ≡ bytes-of (bytes .entry)) ⌝ }
 {
-    match parse(line) {
-        Ok(Command::Blank) => Ok(String::new(heap)),
-        Ok(Command::PacketRead { kind, burst }) => packet_read(heap, kind, burst),
-        Ok(
-            Command::PacketWrite {
-                kind,
-                letter,
-                field,
-                size,
-            },
-        ) => packet_write(heap, kind, letter, field, size),
-        Err(fault) => answer::wrong(heap, fault),
+    match bytes {
+        Bytes::Pairs(pairs) => decode(heap, pairs),
+        Bytes::Text(text) => Vec::from_slice(heap, text),
     }
 }
 
-fn packet_read(heap: Global, kind: Kind, burst: Bytes<'_>) -> Result<String, AllocError>
-    ensures { λ r. ⌜ made r (λ s. string-bytes s ≡ answered (read kind (bytes-of (burst .entry)))) ⌝ }
+// A place of `size` bytes to lend to a call.
+fn place(heap: Global, size: usize) -> Result<Vec<u8>, AllocError>
+    ensures { λ r. ⌜ made r (λ v. vec-items v ≡ replicate size 0xee) ⌝ }
 {
-    let burst = bytes(heap, burst)?;
-    match kind {
-        Kind::Sum => read_burst::<Sum>(heap, &burst),
-        Kind::Xor => read_burst::<Xor>(heap, &burst),
-    }
-}
-
-fn packet_write(
-    heap: Global,
-    kind: Kind,
-    letter: u8,
-    field: Bytes<'_>,
-    size: usize,
-) -> Result<String, AllocError>
-    ensures { λ r. ⌜ made r (λ s. string-bytes s ≡ answered (write kind letter (bytes-of (field .entry)) size)) ⌝ }
-{
-    let field = bytes(heap, field)?;
-    match kind {
-        Kind::Sum => write_packet::<Sum>(heap, letter, &field, size),
-        Kind::Xor => write_packet::<Xor>(heap, letter, &field, size),
-    }
+    vec![in heap; FILL; size]
 }

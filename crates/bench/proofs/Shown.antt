@@ -12,7 +12,7 @@ use Rattle.packet.specs.Format.{parts}
 use Rattle.packet.specs.Refusals.{gave}
 use Rattle.packet.specs.declared.letter.Letter.{Letter}
 use Rattle.packet.specs.declared.letter.Letter.the-variants.{Enq, Data0, Data1, Ack0, Ack1, Reset}
-use Rattle.script.specs.Printed.{end, read-line}
+use Rattle.bench.specs.Printed.{end, read-line}
 
 letter-shown : (x : Letter) → encode (byte-of x) ≡ byte-of x ∷ []
 unfolding encode

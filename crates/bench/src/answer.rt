@@ -6,11 +6,11 @@ ghost use Rattle.std.specs.Vec.{made};
 ghost use Rattle.std.specs.declared.result.Result.the-variants.{Err};
 ghost use Rattle.packet.specs.Packets.{told as packet-told};
 ghost use Rattle.packet.specs.Refusals.{gave, number-of};
-ghost use Rattle.script.specs.Printed.{refusal, read-line, write-line, said};
-use crate::fault::Fault;
+ghost use Rattle.bench.specs.Printed.{refusal, read-line, write-line, said};
 use notation::hex::hex;
 use packet::reader::Packet;
 use packet::refusal::Refusal;
+use script::fault::Fault;
 use std::alloc::AllocError;
 use std::alloc::Global;
 

@@ -8,7 +8,7 @@ use lib.ListN.{length, take, drop, length-append}
 use Rattle.std.proofs.shelf.Lists.{take-at}
 use Rattle.packet.specs.Format.{packet, covered, writing, writing-rules, after-writing}
 use Rattle.packet.specs.Refusals.{Answer, refused, gave, Rule, judged}
-use Rattle.script.specs.Printed.{write-line}
+use Rattle.bench.specs.Printed.{write-line}
 
 passed : {A : Type 0} (b : Bool) (n : ℕ) (a : Answer A) (y : A) → cond b (refused n) a ≡ gave y → a ≡ gave y
 passed true n a y e = cc

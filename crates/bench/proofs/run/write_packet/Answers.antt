@@ -8,9 +8,9 @@ use Rattle.std.proofs.shelf.Lists.{refilled-is}
 use Rattle.std.proofs.shelf.Results.{made-weaker}
 use Rattle.packet.specs.Format.{packet, writing}
 use Rattle.packet.specs.Refusals.{gave, refused, number-of}
-use Rattle.script.specs.Printed.{write-line}
-use Rattle.script.proofs.Writings.{written-burst, written-line}
-use Rattle.script.proofs.run.write_packet.Needs as need
+use Rattle.bench.specs.Printed.{write-line}
+use Rattle.bench.proofs.Writings.{written-burst, written-line}
+use Rattle.bench.proofs.run.write_packet.Needs as need
 
 pub returns-in-Ok : need.returns-in-Ok
 returns-in-Ok g c =

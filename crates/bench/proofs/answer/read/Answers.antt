@@ -1,8 +1,8 @@
 use mathlib.Core.Path.{_∙_}
 use Rattle.std.proofs.shelf.Results.{made-weaker}
 use Rattle.std.specs.Of.String.{string-bytes}
-use Rattle.script.proofs.Shown.{read-shown}
-use Rattle.script.proofs.answer.read.Needs as need
+use Rattle.bench.proofs.Shown.{read-shown}
+use Rattle.bench.proofs.answer.read.Needs as need
 
 pub returns : need.returns
 returns c =
