@@ -7,6 +7,7 @@ use Rattle.std.specs.Written.{decimal}
 use Rattle.std.specs.declared.result.Result.{Result}
 use Rattle.std.specs.declared.result.Result.the-variants.{Ok, Err}
 use Rattle.notation.specs.Hex.{hex}
+use Rattle.notation.specs.Words.{without-end}
 use Rattle.packet.specs.Checks.{sum-check, xor-check}
 use Rattle.packet.specs.Format.{Parts, parts, packet, reading, writing}
 use Rattle.packet.specs.Refusals.{Answer, refused, gave}
@@ -49,6 +50,6 @@ abbrev pub said : Result Request Fault → List ℕ
 said (Ok r) = answered r
 said (Err f) = codes "error: " ++ (text f ++ end)
 
--- what is printed for a line
+-- what is printed for a line, with or without its end
 abbrev pub printed : List ℕ → List ℕ
-printed line = said (command-of line)
+printed line = said (command-of (without-end line))

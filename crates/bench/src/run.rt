@@ -10,6 +10,7 @@ ghost use Rattle.script.specs.Commands.{Request, read, write};
 ghost use Rattle.script.specs.Told.{bytes-of};
 use crate::answer;
 use notation::hex::decode;
+use notation::words::without_end;
 use packet::checks::Check;
 use packet::checks::Sum;
 use packet::checks::SumCheck;
@@ -27,11 +28,11 @@ use std::alloc::Global;
 // What stands in a place before a call is lent it.
 const FILL: u8 = 0xEE;
 
-// What is printed for a line, which comes without its end: no bytes where nothing is asked.
+// What is printed for a line, with or without its end: no bytes where nothing is asked.
 pub fn run_line(heap: Global, line: &[u8]) -> Result<String, AllocError>
     ensures { λ r. ⌜ made r (λ s. string-bytes s ≡ printed (now (line .entry))) ⌝ }
 {
-    match parse(line) {
+    match parse(without_end(line)) {
         Ok(Command::Blank) => Ok(String::new(heap)),
         Ok(Command::PacketRead { kind, burst }) => packet_read(heap, kind, burst),
         Ok(

@@ -37,7 +37,7 @@ figure-ascii n h = grind (arith, tells)
 
 -- one more byte is printed
 pub pairs-more : (front xs all : List ℕ) (i : ℕ) → i < length xs → front ++ pairs (drop i xs) ≡ all → ((front ++ figure (getD xs i 0 / 16) ∷ []) ++ figure (getD xs i 0 % 16) ∷ []) ++ pairs (drop (i + 1) xs) ≡ all
-pairs-more front xs all i h e = rw (append-assoc, append-assoc) (ap (λ l. front ++ l) (sym (at-drop-more pairs xs i 0 h)) ∙ e)
+pairs-more front xs all i h e = simp append-assoc (ap (λ l. front ++ l) (sym (at-drop-more pairs xs i 0 h)) ∙ e)
 
 pub hex-none : (xs : List ℕ) → true ≡ eqb (length xs) 0 → 0x2d ∷ [] ≡ hex xs
 hex-none [] h = refl

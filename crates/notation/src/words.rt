@@ -1,9 +1,9 @@
-// The words of a line: the longest runs of bytes other than the space.
+// A line and its words, the longest runs of bytes other than the space.
 ghost use mathlib.Core.Path.{_≡_};
 ghost use Prim.Native.Nat.{_≤_};
 ghost use lib.ListN.{length};
 ghost use Rattle.std.specs.shelf.Lists.{leading};
-ghost use Rattle.notation.specs.Words.{is-space, is-other, trimmed, word, left};
+ghost use Rattle.notation.specs.Words.{is-space, is-other, without-end, trimmed, word, left};
 
 // How many spaces stand at the front.
 fn spaces(line: &[u8]) -> usize
@@ -18,17 +18,25 @@ fn spaces(line: &[u8]) -> usize
     line.len()
 }
 
-// How many bytes stand before the first space.
-fn word_length(line: &[u8]) -> usize
-    ensures value { λ r. ⌜ r ≡ leading is-other (now (line .entry)) ⌝ }
-    ensures within { λ r. ⌜ r ≤ length (now (line .entry)) ⌝ }
+// How many bytes stand before the first `stop`.
+pub fn length_before(bytes: &[u8], stop: u8) -> usize
+    ensures value { λ r. ⌜ r ≡ leading (is-other stop) (now (bytes .entry)) ⌝ }
+    ensures within { λ r. ⌜ r ≤ length (now (bytes .entry)) ⌝ }
 {
-    for (i, b) in line.iter().enumerate() {
-        if *b == b' ' {
+    for (i, b) in bytes.iter().enumerate() {
+        if *b == stop {
             return i;
         }
     }
-    line.len()
+    bytes.len()
+}
+
+// A line without the line end that it may have.
+pub fn without_end(line: &[u8]) -> &[u8]
+    ensures { λ r. ⌜ now r ≡ without-end (now (line .entry)) ⌝ }
+{
+    let (bytes, _) = line.split_at(length_before(line, b'\n'));
+    bytes
 }
 
 // The line after its leading spaces.
@@ -46,5 +54,5 @@ pub fn split_word(line: &[u8]) -> (&[u8], &[u8])
     ensures left { λ r. ⌜ now (r .1) ≡ left (now (line .entry)) ⌝ }
 {
     let line = trimmed(line);
-    line.split_at(word_length(line))
+    line.split_at(length_before(line, b' '))
 }
