@@ -1,10 +1,10 @@
 // Worked packets that are run; the expected values are those of docs/PROTOCOL.md.
 use super::kinds::*;
 use packet::checks::Check;
-use packet::checks::Sum;
-use packet::checks::SumCheck;
-use packet::checks::Xor;
-use packet::checks::XorCheck;
+use packet::sum::Sum;
+use packet::sum::SumCheck;
+use packet::xor::Xor;
+use packet::xor::XorCheck;
 use packet::reader::read;
 use packet::writer::write;
 use std::test::*;

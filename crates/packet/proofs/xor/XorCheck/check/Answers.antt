@@ -6,7 +6,7 @@ use lib.ListN.{getD}
 use lib.Seq.{take-all}
 use Rattle.std.proofs.shelf.Sums.{folded-more}
 use Rattle.packet.specs.Checks.{xor-of}
-use Rattle.packet.proofs.checks.XorCheck.check.Needs as need
+use Rattle.packet.proofs.xor.XorCheck.check.Needs as need
 
 pub loop-b-again : need.loop-b-again
 loop-b-again c =

@@ -5,7 +5,7 @@ use native.Mathlib.Omega.{arith}
 use lib.Seq.{take-all}
 use Rattle.std.proofs.shelf.Sums.{folded-more}
 use Rattle.packet.specs.Checks.{sum-of}
-use Rattle.packet.proofs.checks.SumCheck.check.Needs as need
+use Rattle.packet.proofs.sum.SumCheck.check.Needs as need
 
 pub loop-b-again : need.loop-b-again
 loop-b-again c =
