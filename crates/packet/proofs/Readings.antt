@@ -35,11 +35,12 @@ pub record Begun (c : ℕ) (check : List ℕ → List ℕ) (b : List ℕ) (k : �
   pub field : f ≡ field-of c b
   pub on : reading c check b ≡ judged (field-rules (getD b 1 0) (field-of c b) ++ end-rules c check b) (parts-of c b)
 
-pub begun : (c r : ℕ) (check : List ℕ → List ℕ) (b : List ℕ) (k : ℕ) → r ≡ c → 3 + c ≤ length b → length b ≤ 99 + c → getD b 0 0 ≡ 2 → Some k ≡ cond (known (getD b 1 0)) (Some (getD b 1 0)) None
+pub begun : (c r : ℕ) (check : List ℕ → List ℕ) (b : List ℕ) (k : ℕ) → r ≡ c → true ≡ between (3 + r) (99 + r) (length b) → getD b 0 0 ≡ 2 → Some k ≡ cond (known (getD b 1 0)) (Some (getD b 1 0)) None
     → Begun c check b k (take (length b - r - 3 - 0) (rest-of b))
-begun c r check b k e low high first l =
+begun c r check b k e sized first l =
     let found = found-letter k (getD b 1 0) l in
-    let long : between (3 + c) (99 + c) (length b) ≡ true = grind (arith, tells) in
+    let long : between (3 + c) (99 + c) (length b) ≡ true = ap (λ (m : ℕ). between (3 + m) (99 + m) (length b)) (sym e) ∙ sym sized in
+    let low : 3 + c ≤ length b = grind (arith, tells) in
     let n : length b - r - 3 - 0 ≡ length b - c - 3 = omega arith in
     record {
       enough = low;
@@ -56,10 +57,6 @@ end-at c r b e low =
 
 -- the ways out
 module _ (c : ℕ) (check : List ℕ → List ℕ) (b : List ℕ) where
-  pub way-length : not (between (3 + c) (99 + c) (length b)) ≡ true → refused 1 ≡ reading c check b
-  way-length e =
-      sym (stopped _ 1 (not (eqb (getD b 0 0) 0x02) ⇒ 2 ∷ not (known (getD b 1 0)) ⇒ 3 ∷ (field-rules (getD b 1 0) (field-of c b) ++ end-rules c check b)) (parts-of c b) e)
-
   module _ (k : ℕ) (f : List ℕ) (begin : Begun c check b k f) where
     -- the rules of the field, at the letter and the field that the code has
     moved : judged (field-rules k f) (tt {0}) ≡ judged (field-rules (getD b 1 0) (field-of c b)) (tt {0})
