@@ -5,12 +5,13 @@ use mathlib.Core.List.{List, [], _∷_, _++_}
 use Prim.Native.Nat.{ℕ, _+_, _-_, _≤_}
 use native.Mathlib.Omega.{arith}
 use lib.Dec.{eqb}
-use lib.ListN.{length, getD, take, drop, length-drop}
+use lib.ListN.{length, getD, take, drop, replicate}
 use Rattle.std.specs.declared.option.Option.the-variants.{Some, None}
 use Rattle.std.specs.shelf.Text.{sameBytes}
-use Rattle.std.proofs.shelf.Lists.{take-rest, getD-drop}
+use Rattle.std.proofs.shelf.Lists.{take-rest, take-at, getD-drop}
 use Rattle.std.proofs.shelf.Tests.{eq-eqb, ne-eqb}
 use Rattle.std.proofs.shelf.Ways.{tells}
+use Rattle.packet.specs.Checks.{padded}
 use Rattle.packet.specs.Letters.{between, known}
 use Rattle.packet.specs.Format.{Parts, parts, parts-of, field-of, covered-of, end-byte, check-of, field-rules, start-rules, end-rules, reading}
 use Rattle.packet.specs.Refusals.{refused, gave, _⇒_, judged}
@@ -81,6 +82,10 @@ module _ (c : ℕ) (check : List ℕ → List ℕ) (b : List ℕ) where
           ap (λ (l : ℕ). gave (parts l 2 f)) (begin .letter)
           ∙ ap (λ (g : List ℕ). gave (parts (getD b 1 0) 2 g)) (begin .field)
           ∙ sym (at-end ∙ all-past (end-rules c check b) (parts-of c b) (ap not (eq-eqb _ _ e), (ap not (sym t), tt)))
+
+-- the check bytes at the front of the answer of a kind
+pub check-front : (c : ℕ) (ks m : List ℕ) → ks ≡ padded c m → length m ≡ c → take c ks ≡ m
+check-front c ks m e n = ap (take c) e ∙ take-at m (replicate (5 - c) 0) c n
 
 -- the last bytes against the check of the covered ones, as the code has them
 pub check-at : (c r : ℕ) (check : List ℕ → List ℕ) (b ks : List ℕ) (t : Bool) → r ≡ c → take c ks ≡ check (take (length b - r - 1) (drop 1 b)) → t ≡ sameBytes (take (length b - (length b - r)) (drop (length b - r) b)) (take (r - 0) ks) → t ≡ sameBytes (check-of c b) (check (covered-of c b))

@@ -2,8 +2,8 @@
 ghost use mathlib.Core.Path.{_≡_};
 ghost use mathlib.Core.List.{List};
 ghost use Prim.Native.Nat.{ℕ, _≤_};
-ghost use lib.ListN.{length, take};
-ghost use Rattle.packet.specs.Checks.{Each, Altered};
+ghost use lib.ListN.{length};
+ghost use Rattle.packet.specs.Checks.{Each, Altered, padded};
 
 // A rule that gives each string of covered bytes its check bytes.
 pub trait Check {
@@ -30,7 +30,7 @@ pub trait Check {
     fn count() -> usize
         ensures { λ r. ⌜ r ≡ size ⌝ };
 
-    // The first LEN bytes of the answer are the check bytes of `covered`.
+    // The check bytes of `covered` come first in the answer, then zeros.
     fn check(covered: &[u8]) -> [u8; 5]
-        ensures { λ r. ⌜ take size r ≡ meaning (now (covered .entry)) ⌝ };
+        ensures { λ r. ⌜ r ≡ padded size (meaning (now (covered .entry))) ⌝ };
 }

@@ -13,4 +13,4 @@ loop-b-again c =
     omega (arith, step)
 
 pub returns : need.returns
-returns c = ap (λ n. (0x80 + n) ∷ []) (c .loop-b .inv ∙ ap (λ xs. sum-of xs % 128) (take-all _ _ (c .loop-b-test .left)))
+returns c = ap (λ n. (0x80 + n) ∷ 0 ∷ 0 ∷ 0 ∷ 0 ∷ []) (c .loop-b .inv ∙ ap (λ xs. sum-of xs % 128) (take-all _ _ (c .loop-b-test .left)))

@@ -15,4 +15,4 @@ loop-b-again c =
     xor-mod (c .loop-b .all) x 7 ∙ ap (λ (a : ℕ). bitXor a (x % 128)) (c .loop-b .inv) ∙ sym step
 
 pub returns : need.returns
-returns c = ap (λ n. (0x80 + n) ∷ []) (c .loop-b .inv ∙ ap xor-of (take-all _ _ (c .loop-b-test .left)))
+returns c = ap (λ n. (0x80 + n) ∷ 0 ∷ 0 ∷ 0 ∷ 0 ∷ []) (c .loop-b .inv ∙ ap xor-of (take-all _ _ (c .loop-b-test .left)))
