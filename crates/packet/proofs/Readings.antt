@@ -5,12 +5,13 @@ use mathlib.Core.List.{List, [], _∷_, _++_}
 use Prim.Native.Nat.{ℕ, _+_, _-_, _≤_}
 use native.Mathlib.Omega.{arith}
 use lib.Dec.{eqb}
-use lib.ListN.{length, getD, take, drop, length-drop}
+use lib.ListN.{length, getD, take, drop, replicate}
 use Rattle.std.specs.declared.option.Option.the-variants.{Some, None}
 use Rattle.std.specs.shelf.Text.{sameBytes}
-use Rattle.std.proofs.shelf.Lists.{take-rest, getD-drop}
+use Rattle.std.proofs.shelf.Lists.{take-rest, take-at, getD-drop}
 use Rattle.std.proofs.shelf.Tests.{eq-eqb, ne-eqb}
 use Rattle.std.proofs.shelf.Ways.{tells}
+use Rattle.packet.specs.Checks.{padded}
 use Rattle.packet.specs.Letters.{between, known}
 use Rattle.packet.specs.Format.{Parts, parts, parts-of, field-of, covered-of, end-byte, check-of, field-rules, start-rules, end-rules, reading}
 use Rattle.packet.specs.Refusals.{refused, gave, _⇒_, judged}
@@ -35,11 +36,12 @@ pub record Begun (c : ℕ) (check : List ℕ → List ℕ) (b : List ℕ) (k : �
   pub field : f ≡ field-of c b
   pub on : reading c check b ≡ judged (field-rules (getD b 1 0) (field-of c b) ++ end-rules c check b) (parts-of c b)
 
-pub begun : (c r : ℕ) (check : List ℕ → List ℕ) (b : List ℕ) (k : ℕ) → r ≡ c → 3 + c ≤ length b → length b ≤ 99 + c → getD b 0 0 ≡ 2 → Some k ≡ cond (known (getD b 1 0)) (Some (getD b 1 0)) None
+pub begun : (c r : ℕ) (check : List ℕ → List ℕ) (b : List ℕ) (k : ℕ) → r ≡ c → true ≡ between (3 + r) (99 + r) (length b) → getD b 0 0 ≡ 2 → Some k ≡ cond (known (getD b 1 0)) (Some (getD b 1 0)) None
     → Begun c check b k (take (length b - r - 3 - 0) (rest-of b))
-begun c r check b k e low high first l =
+begun c r check b k e sized first l =
     let found = found-letter k (getD b 1 0) l in
-    let long : between (3 + c) (99 + c) (length b) ≡ true = grind (arith, tells) in
+    let long : between (3 + c) (99 + c) (length b) ≡ true = ap (λ (m : ℕ). between (3 + m) (99 + m) (length b)) (sym e) ∙ sym sized in
+    let low : 3 + c ≤ length b = grind (arith, tells) in
     let n : length b - r - 3 - 0 ≡ length b - c - 3 = omega arith in
     record {
       enough = low;
@@ -56,10 +58,6 @@ end-at c r b e low =
 
 -- the ways out
 module _ (c : ℕ) (check : List ℕ → List ℕ) (b : List ℕ) where
-  pub way-length : not (between (3 + c) (99 + c) (length b)) ≡ true → refused 1 ≡ reading c check b
-  way-length e =
-      sym (stopped _ 1 (not (eqb (getD b 0 0) 0x02) ⇒ 2 ∷ not (known (getD b 1 0)) ⇒ 3 ∷ (field-rules (getD b 1 0) (field-of c b) ++ end-rules c check b)) (parts-of c b) e)
-
   module _ (k : ℕ) (f : List ℕ) (begin : Begun c check b k f) where
     -- the rules of the field, at the letter and the field that the code has
     moved : judged (field-rules k f) (tt {0}) ≡ judged (field-rules (getD b 1 0) (field-of c b)) (tt {0})
@@ -84,6 +82,10 @@ module _ (c : ℕ) (check : List ℕ → List ℕ) (b : List ℕ) where
           ap (λ (l : ℕ). gave (parts l 2 f)) (begin .letter)
           ∙ ap (λ (g : List ℕ). gave (parts (getD b 1 0) 2 g)) (begin .field)
           ∙ sym (at-end ∙ all-past (end-rules c check b) (parts-of c b) (ap not (eq-eqb _ _ e), (ap not (sym t), tt)))
+
+-- the check bytes at the front of the answer of a kind
+pub check-front : (c : ℕ) (ks m : List ℕ) → ks ≡ padded c m → length m ≡ c → take c ks ≡ m
+check-front c ks m e n = ap (take c) e ∙ take-at m (replicate (5 - c) 0) c n
 
 -- the last bytes against the check of the covered ones, as the code has them
 pub check-at : (c r : ℕ) (check : List ℕ → List ℕ) (b ks : List ℕ) (t : Bool) → r ≡ c → take c ks ≡ check (take (length b - r - 1) (drop 1 b)) → t ≡ sameBytes (take (length b - (length b - r)) (drop (length b - r) b)) (take (r - 0) ks) → t ≡ sameBytes (check-of c b) (check (covered-of c b))

@@ -53,7 +53,6 @@ abbrev pub Rule : Type 0
 Rule = Bool × ℕ
 
 infix 90 _⇒_
-
 abbrev pub _⇒_ : Bool → ℕ → Rule
 b ⇒ n = (b, n)
 

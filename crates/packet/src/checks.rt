@@ -1,9 +1,9 @@
-// The check kinds of a packet.
+// What a check kind is.
 ghost use mathlib.Core.Path.{_≡_};
 ghost use mathlib.Core.List.{List};
 ghost use Prim.Native.Nat.{ℕ, _≤_};
-ghost use lib.ListN.{length, take};
-ghost use Rattle.packet.specs.Checks.{Each, Altered, sum-check, xor-check};
+ghost use lib.ListN.{length};
+ghost use Rattle.packet.specs.Checks.{Each, Altered, padded};
 
 // A rule that gives each string of covered bytes its check bytes.
 pub trait Check {
@@ -30,53 +30,7 @@ pub trait Check {
     fn count() -> usize
         ensures { λ r. ⌜ r ≡ size ⌝ };
 
-    // The first LEN bytes of the answer are the check bytes of `covered`.
+    // The check bytes of `covered` come first in the answer, then zeros.
     fn check(covered: &[u8]) -> [u8; 5]
-        ensures { λ r. ⌜ take size r ≡ meaning (now (covered .entry)) ⌝ };
-}
-
-// One check byte: 80 plus the sum modulo 128.
-pub struct Sum;
-
-pub impl Check for Sum as SumCheck {
-    const LEN: usize = 1;
-
-    ghost size = { 1 };
-
-    ghost meaning = { sum-check };
-
-    fn count() -> usize {
-        Self::LEN
-    }
-
-    fn check(covered: &[u8]) -> [u8; 5] {
-        let mut sum = 0u8;
-        for b in covered {
-            sum = sum.wrapping_add(*b);
-        }
-        [0x80 + sum % 0x80, 0, 0, 0, 0]
-    }
-}
-
-// One check byte: 80 plus the exclusive or modulo 128.
-pub struct Xor;
-
-pub impl Check for Xor as XorCheck {
-    const LEN: usize = 1;
-
-    ghost size = { 1 };
-
-    ghost meaning = { xor-check };
-
-    fn count() -> usize {
-        Self::LEN
-    }
-
-    fn check(covered: &[u8]) -> [u8; 5] {
-        let mut all = 0u8;
-        for b in covered {
-            all ^= *b;
-        }
-        [0x80 + all % 0x80, 0, 0, 0, 0]
-    }
+        ensures { λ r. ⌜ r ≡ padded size (meaning (now (covered .entry))) ⌝ };
 }

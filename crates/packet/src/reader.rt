@@ -10,7 +10,7 @@ ghost use Rattle.std.specs.shelf.Text.{sameBytes};
 ghost use Rattle.packet.specs.Bytes.{byte-of};
 ghost use Rattle.packet.specs.Format.{reading, check-of, covered-of};
 ghost use Rattle.packet.specs.Laws.{Read-as-written, Altered-refused};
-ghost use Rattle.packet.specs.Letters.{is-data, is-ack};
+ghost use Rattle.packet.specs.Letters.{between, is-data, is-ack};
 ghost use Rattle.packet.specs.Packets.{told};
 ghost use Rattle.packet.specs.Refusals.{answer};
 use crate::checks::Check;
@@ -68,7 +68,7 @@ fn take_apart<K: Check>(burst: &[u8]) -> Result<Packet<'_>, Refusal>
 {
     let c = K::count();
     let n = burst.len();
-    if n < 3 + c || n > 99 + c {
+    if !length_fits(n, c) {
         return Err(Refusal::BurstLength);
     }
     let [first, letter, rest @ ..] = burst else {
@@ -96,6 +96,14 @@ fn take_apart<K: Check>(burst: &[u8]) -> Result<Packet<'_>, Refusal>
         place: FIELD_PLACE,
         field,
     })
+}
+
+// Whether a packet with `c` check bytes may have `n` bytes.
+fn length_fits(n: usize, c: usize) -> bool
+    requires { ⌜ c ≤ 5 ⌝ }
+    ensures { λ r. ⌜ r ≡ between (3 + c) (99 + c) n ⌝ }
+{
+    3 + c <= n && n <= 99 + c
 }
 
 // Whether the last `c` bytes are the check of those from the letter to them.

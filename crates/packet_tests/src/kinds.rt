@@ -1,10 +1,10 @@
 // Two check kinds of a user's own, from those that the packet crate has.
 ghost use Rattle.packet_tests.specs.Kinds.{pair-check, five-check};
 use packet::checks::Check;
-use packet::checks::Sum;
-use packet::checks::SumCheck;
-use packet::checks::Xor;
-use packet::checks::XorCheck;
+use packet::sum::Sum;
+use packet::sum::SumCheck;
+use packet::xor::Xor;
+use packet::xor::XorCheck;
 
 // Two check bytes: that of the sum and that of the exclusive or.
 pub struct Pair;

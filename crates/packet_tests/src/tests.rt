@@ -1,12 +1,12 @@
 // Worked packets that are run; the expected values are those of docs/PROTOCOL.md.
 use super::kinds::*;
 use packet::checks::Check;
-use packet::checks::Sum;
-use packet::checks::SumCheck;
-use packet::checks::Xor;
-use packet::checks::XorCheck;
 use packet::reader::read;
+use packet::sum::Sum;
+use packet::sum::SumCheck;
 use packet::writer::write;
+use packet::xor::Xor;
+use packet::xor::XorCheck;
 use std::test::*;
 
 // The refusal's number, 0 where the burst is read.
@@ -62,7 +62,10 @@ fn bursts_of_wrong_length_give_1() -> Result<(), Fail> {
     check_eq(number::<Sum>(&[0x02u8; 100]), 3)?;
     check_eq(number::<Sum>(&[]), 1)?;
     check_eq(number::<Pair>(&[0x02, 0x45, 0x03, 0xc8]), 1)?;
-    check_eq(number::<Five>(&[0x02, 0x45, 0x03, 0xc8, 0xc6, 0xc6, 0xc8]), 1)
+    check_eq(
+        number::<Five>(&[0x02, 0x45, 0x03, 0xc8, 0xc6, 0xc6, 0xc8]),
+        1,
+    )
 }
 
 #[test]
@@ -84,6 +87,12 @@ fn kinds_of_two_and_five_bytes() -> Result<(), Fail> {
     check_eq(number::<Pair>(&[0x02, 0x45, 0x03, 0xc8, 0xc7]), 7)?;
     check_eq(written::<Five>(b'E', b"", &mut out), 8)?;
     check_eq(out, [0x02, 0x45, 0x03, 0xc8, 0xc6, 0xc6, 0xc8, 0xc8, 0xaa])?;
-    check_eq(number::<Five>(&[0x02, 0x45, 0x03, 0xc8, 0xc6, 0xc6, 0xc8, 0xc8]), 0)?;
-    check_eq(number::<Five>(&[0x02, 0x45, 0x03, 0xc8, 0xc6, 0xc6, 0xc8, 0x48]), 7)
+    check_eq(
+        number::<Five>(&[0x02, 0x45, 0x03, 0xc8, 0xc6, 0xc6, 0xc8, 0xc8]),
+        0,
+    )?;
+    check_eq(
+        number::<Five>(&[0x02, 0x45, 0x03, 0xc8, 0xc6, 0xc6, 0xc8, 0x48]),
+        7,
+    )
 }

@@ -5,7 +5,7 @@ use native.Mathlib.Omega.{arith}
 use lib.Seq.{take-all}
 use Rattle.std.proofs.shelf.Sums.{folded-more}
 use Rattle.packet.specs.Checks.{sum-of}
-use Rattle.packet.proofs.checks.SumCheck.check.Needs as need
+use Rattle.packet.proofs.sum.SumCheck.check.Needs as need
 
 pub loop-b-again : need.loop-b-again
 loop-b-again c =
@@ -13,4 +13,4 @@ loop-b-again c =
     omega (arith, step)
 
 pub returns : need.returns
-returns c = ap (λ n. (0x80 + n) ∷ []) (c .loop-b .inv ∙ ap (λ xs. sum-of xs % 128) (take-all _ _ (c .loop-b-test .left)))
+returns c = ap (λ n. (0x80 + n) ∷ 0 ∷ 0 ∷ 0 ∷ 0 ∷ []) (c .loop-b .inv ∙ ap (λ xs. sum-of xs % 128) (take-all _ _ (c .loop-b-test .left)))

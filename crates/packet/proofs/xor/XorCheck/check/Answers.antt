@@ -6,7 +6,7 @@ use lib.ListN.{getD}
 use lib.Seq.{take-all}
 use Rattle.std.proofs.shelf.Sums.{folded-more}
 use Rattle.packet.specs.Checks.{xor-of}
-use Rattle.packet.proofs.checks.XorCheck.check.Needs as need
+use Rattle.packet.proofs.xor.XorCheck.check.Needs as need
 
 pub loop-b-again : need.loop-b-again
 loop-b-again c =
@@ -15,4 +15,4 @@ loop-b-again c =
     xor-mod (c .loop-b .all) x 7 ∙ ap (λ (a : ℕ). bitXor a (x % 128)) (c .loop-b .inv) ∙ sym step
 
 pub returns : need.returns
-returns c = ap (λ n. (0x80 + n) ∷ []) (c .loop-b .inv ∙ ap xor-of (take-all _ _ (c .loop-b-test .left)))
+returns c = ap (λ n. (0x80 + n) ∷ 0 ∷ 0 ∷ 0 ∷ 0 ∷ []) (c .loop-b .inv ∙ ap xor-of (take-all _ _ (c .loop-b-test .left)))
