@@ -53,3 +53,7 @@ said (Err f) = codes "error: " ++ (text f ++ end)
 -- what is printed for a line, with or without its end
 abbrev pub printed : List ℕ → List ℕ
 printed line = said (command-of (without-end line))
+
+-- what is printed where the machine has no memory for a line
+abbrev pub out-of-memory : List ℕ
+out-of-memory = codes "error: out of memory" ++ end

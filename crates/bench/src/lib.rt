@@ -1,3 +1,3 @@
 // What is printed for a line of a script.
-pub mod answer;
+mod answer;
 pub mod run;

@@ -5,19 +5,19 @@ ghost use Rattle.std.specs.Of.String.{string-bytes};
 ghost use Rattle.std.specs.Of.Vec.{vec-items};
 ghost use Rattle.std.specs.Vec.{made};
 ghost use Rattle.packet.specs.Format.{packet, reading, writing};
-ghost use Rattle.bench.specs.Printed.{read-line, write-line, answered, printed};
+ghost use Rattle.bench.specs.Printed.{read-line, write-line, answered, printed, out-of-memory};
 ghost use Rattle.script.specs.Commands.{Request, read, write};
 ghost use Rattle.script.specs.Told.{bytes-of};
 use crate::answer;
 use notation::hex::decode;
 use notation::words::without_end;
 use packet::checks::Check;
+use packet::reader::read;
 use packet::sum::Sum;
 use packet::sum::SumCheck;
+use packet::writer::write;
 use packet::xor::Xor;
 use packet::xor::XorCheck;
-use packet::reader::read;
-use packet::writer::write;
 use script::command::Bytes;
 use script::command::Command;
 use script::command::Kind;
@@ -45,6 +45,13 @@ pub fn run_line(heap: Global, line: &[u8]) -> Result<String, AllocError>
         ) => packet_write(heap, kind, letter, field, size),
         Err(fault) => answer::wrong(heap, fault),
     }
+}
+
+// What is printed where the machine has no memory for a line.
+pub fn out_of_memory() -> &'static str
+    ensures { λ r. ⌜ now r ≡ out-of-memory ⌝ }
+{
+    "error: out of memory\n"
 }
 
 // `packet read`

@@ -1,4 +1,4 @@
 // What a line of a workbench script asks for.
-pub mod arguments;
+mod arguments;
 pub mod command;
 pub mod fault;

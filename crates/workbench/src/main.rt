@@ -1,6 +1,7 @@
 // Answers a script: one line for each command of standard input.
 mod lines;
 
+use bench::run::out_of_memory;
 use bench::run::run_line;
 use lines::Taken;
 use lines::take_line;
@@ -8,8 +9,6 @@ use std::io;
 use std::io::BufReader;
 use std::io::BufWriter;
 use std::io::Write;
-
-const OUT_OF_MEMORY: &[u8] = b"error: out of memory\n";
 
 fn main(rt: LibcRuntime) -> io::Result<()> {
     let heap = rt.alloc();
@@ -20,9 +19,9 @@ fn main(rt: LibcRuntime) -> io::Result<()> {
         match take_line(heap, &mut input, &mut line)? {
             Taken::Line => match run_line(heap, &line) {
                 Ok(answer) => output.write_all(answer.as_bytes())?,
-                Err(_) => output.write_all(OUT_OF_MEMORY)?,
+                Err(_) => output.write_all(out_of_memory().as_bytes())?,
             },
-            Taken::TooLong => output.write_all(OUT_OF_MEMORY)?,
+            Taken::TooLong => output.write_all(out_of_memory().as_bytes())?,
             Taken::End => break,
         }
     }
