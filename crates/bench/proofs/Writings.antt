@@ -8,7 +8,7 @@ use lib.ListN.{length, take, drop, length-append}
 use Rattle.std.proofs.shelf.Lists.{take-at}
 use Rattle.packet.specs.Format.{packet, covered, writing, writing-rules, after-writing}
 use Rattle.packet.specs.Refusals.{Answer, refused, gave, Rule, judged}
-use Rattle.bench.specs.Printed.{write-line}
+use Rattle.bench.specs.Printed.{refusal, write-line}
 
 passed : {A : Type 0} (b : Bool) (n : ℕ) (a : Answer A) (y : A) → cond b (refused n) a ≡ gave y → a ≡ gave y
 passed true n a y e = cc
@@ -25,15 +25,15 @@ module _ (c : ℕ) (check : List ℕ → List ℕ) (sized : (xs : List ℕ) → 
       let framed = length-append f (0x03 ∷ []) in
       omega (arith, sized (covered l f))
 
-  -- the bytes up to the length that writing tells are the packet
-  pub written-burst : (n m : ℕ) (place after : List ℕ) → gave m ≡ writing c l f n → after ≡ after-writing (gave m) (packet check l f) place → take (m - 0) after ≡ packet check l f
-  written-burst n m place after e a =
-      let end = judged-gave (writing-rules c l f n) (length f + 3 + c) m (sym e) in
-      let long : length (packet check l f) ≡ m - 0 = omega (arith, packet-length) in
-      ap (take (m - 0)) a ∙ take-at (packet check l f) (drop m place) (m - 0) long
+  -- the answer is a length: the bytes up to it are the packet
+  pub written-line : (n m : ℕ) (place after burst : List ℕ) → length place ≡ n → gave m ≡ writing c l f (length place) → after ≡ after-writing (gave m) (packet check l f) place → burst ≡ take (m - 0) after → write-line (gave (length burst)) burst ≡ write-line (writing c l f n) (packet check l f)
+  written-line n m place after burst room told put cut =
+      let end = judged-gave (writing-rules c l f (length place)) (length f + 3 + c) m (sym told) in
+      let whole : length (packet check l f) ≡ m - 0 = omega (arith, packet-length) in
+      let same = cut ∙ ap (take (m - 0)) put ∙ take-at (packet check l f) (drop m place) (m - 0) whole in
+      let long : length burst ≡ m = omega (arith, packet-length, ap length same) in
+      (λ i. write-line (gave (long i)) (same i)) ∙ ap (λ r. write-line r (packet check l f)) (told ∙ ap (writing c l f) room)
 
-  pub written-line : (n m : ℕ) (burst : List ℕ) → gave m ≡ writing c l f n → burst ≡ packet check l f → write-line (gave (length burst)) burst ≡ write-line (writing c l f n) (packet check l f)
-  written-line n m burst e b =
-      let end = judged-gave (writing-rules c l f n) (length f + 3 + c) m (sym e) in
-      let long : length burst ≡ m = omega (arith, packet-length, ap length b) in
-      (λ i. write-line (gave (long i)) (b i)) ∙ ap (λ r. write-line r (packet check l f)) e
+  -- the answer is a refusal
+  pub refused-line : (n k : ℕ) (place : List ℕ) → length place ≡ n → refused k ≡ writing c l f (length place) → refusal k ≡ write-line (writing c l f n) (packet check l f)
+  refused-line n k place room told = ap (λ r. write-line r (packet check l f)) (told ∙ ap (writing c l f) room)
