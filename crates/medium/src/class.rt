@@ -10,7 +10,7 @@ pub enum Class {
 
 impl Class {
     // Whether a byte is a letter of the class.
-    pub(crate) fn has(self, letter: u8) -> bool
+    pub fn has(self, letter: u8) -> bool
         ensures { λ r. ⌜ r ≡ letters self letter ⌝ }
     {
         match self {
