@@ -1,2 +1,5 @@
 pub mod Turning
 pub mod Noise
+pub mod Rows
+pub mod Walks
+pub mod Fitting

@@ -31,12 +31,13 @@ flip-differs x e =
 
 flip-alters : (b : List ℕ) (i : ℕ) → i < length b → getD b i 0 < 256 → Altered b (flipped b i)
 flip-alters b i h l = record {
-    place = i;
-    byte = bitXor (getD b i 0) 1;
-    inside = h;
-    small = xor-lt 8 (getD b i 0) 1 l (omega arith);
-    differs = flip-differs (getD b i 0);
-    is = refl }
+  place = i;
+  byte = bitXor (getD b i 0) 1;
+  inside = h;
+  small = xor-lt 8 (getD b i 0) 1 l (omega arith);
+  differs = flip-differs (getD b i 0);
+  is = refl;
+}
 
 -- the altered array, as far as the burst goes
 pub flipped-is : (b xs : List ℕ) (i : ℕ) → length b ≤ 104 → i < length b → xs ≡ take 104 b ++ replicate (104 - length b) 0
@@ -83,8 +84,9 @@ hit-sends m m′ b r k h p n x =
     record {
       answer = spoilt-if (carried b) (low (m .pattern .bits)) (free (m .queue)) h;
       bursts = altered-in (m .queue) (m′ .queue) b (m .offers % length b) r k x
-        ∙ ap (λ c. cond (c && free (m .queue)) (queued (m .queue) ++ f ∷ []) (queued (m .queue))) (sym k)
-        ∙ ap (λ y. cond (carried b && free (m .queue)) (queued (m .queue) ++ y ∷ []) (queued (m .queue))) s;
+          ∙ ap (λ c. cond (c && free (m .queue)) (queued (m .queue) ++ f ∷ []) (queued (m .queue))) (sym k)
+          ∙ ap (λ y. cond (carried b && free (m .queue)) (queued (m .queue) ++ y ∷ []) (queued (m .queue))) s;
       pattern = p ∙ sym (cond-true (carried b) (turned (m .pattern .bits)) (m .pattern .bits) k);
       offers = n ∙ sym (cond-true (carried b) ((m .offers + 1) % 2 ^ 32) (m .offers) k);
-      kept = x .kept }
+      kept = x .kept;
+    }

@@ -18,7 +18,10 @@ impl<M: Medium> LossyMedium<M> {
         ensures medium { λ r. ⌜ r .medium ≡ medium ⌝ }
         ensures pattern { λ r. ⌜ r .pattern .bits ≡ pattern ⌝ }
     {
-        LossyMedium { medium, pattern: Pattern { bits: pattern } }
+        LossyMedium {
+            medium,
+            pattern: Pattern { bits: pattern },
+        }
     }
 }
 

@@ -30,7 +30,11 @@ impl<'a> NoisyMedium<'a> {
         ensures pattern { λ r. ⌜ r .pattern .bits ≡ pattern ⌝ }
         ensures offers { λ r. ⌜ r .offers ≡ 0 ⌝ }
     {
-        NoisyMedium { queue: QueueMedium::over(slots), pattern: Pattern { bits: pattern }, offers: 0 }
+        NoisyMedium {
+            queue: QueueMedium::over(slots),
+            pattern: Pattern { bits: pattern },
+            offers: 0,
+        }
     }
 }
 

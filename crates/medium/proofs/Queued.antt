@@ -55,7 +55,8 @@ took-in q q′ r b t e x y k =
     record {
       answer = ap whole-if f;
       bursts = put-bursts (elements (q .ring)) (elements (q′ .ring)) r b t (s .1) y ∙ ap (λ z. cond z (queued q ++ b ∷ []) (queued q)) f;
-      kept = k }
+      kept = k;
+    }
 
 pub meaning : (q : QueueMedium) (b : List ℕ) (r : Offer) (q′ : QueueMedium) → Takes-in q b r q′ → Offered (queued q) b r (queued q′)
 meaning q b r q′ x = offered (queued q) (queued q′) b (free q) r (x .answer) (x .bursts)

@@ -17,8 +17,8 @@ is-carried b l h = and-from _ _ (lt-ltb 0 (length b) l) (le-leb (length b) 104 h
 take-min : (b : List ℕ) (n : ℕ) → n - 0 ≡ min (length b) 104 → take (n - 0) b ≡ take 104 b
 take-min b n e =
     elim (cases-lt (length b) 104) [
-      inl h ↦ take-all (n - 0) b (omega arith) ∙ sym (take-all 104 b (omega arith))
-    | inr h ↦ let k : n - 0 ≡ 104 = omega arith in ap (λ i. take i b) k
+      | inl h ↦ take-all (n - 0) b (omega arith) ∙ sym (take-all 104 b (omega arith))
+      | inr h ↦ let k : n - 0 ≡ 104 = omega arith in ap (λ i. take i b) k
     ]
 
 -- a burst of n bytes in its array

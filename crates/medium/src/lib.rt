@@ -8,6 +8,7 @@ ghost use Rattle.medium.specs.declared.offer.Offer.{Offer as Answer};
 ghost use Rattle.medium.specs.Bursts.{Carried, first, some-letter};
 ghost use Rattle.medium.specs.Letters.{command, answer};
 ghost use Rattle.medium.specs.Offered.{Offered};
+
 pub mod burst;
 pub mod class;
 pub mod lent;

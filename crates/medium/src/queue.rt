@@ -28,7 +28,9 @@ impl<'a> QueueMedium<'a> {
         ensures places { λ r. ⌜ places r ≡ min (length (now (slots .entry))) 4096 ⌝ }
         ensures beyond { λ r. ⌜ beyond r ≡ drop 4096 (now (slots .entry)) ⌝ }
     {
-        QueueMedium { ring: Ring::over(slots, QUEUE_LIMIT) }
+        QueueMedium {
+            ring: Ring::over(slots, QUEUE_LIMIT),
+        }
     }
 
     // Whether a burst under way has a letter of the class.
@@ -57,7 +59,11 @@ pub impl<'a> Medium for QueueMedium<'a> as QueueAsMedium {
         match Burst::of(burst) {
             None => Offer::Spoilt,
             Some(record) => {
-                if self.ring.put(record) { Offer::Whole } else { Offer::Spoilt }
+                if self.ring.put(record) {
+                    Offer::Whole
+                } else {
+                    Offer::Spoilt
+                }
             }
         }
     }

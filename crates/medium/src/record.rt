@@ -16,7 +16,10 @@ impl Burst {
     pub fn blank() -> Burst
         ensures { λ r. ⌜ bytes-of r ≡ 0 ∷ [] ⌝ }
     {
-        Burst { bytes: [0; LONGEST], len: 1 }
+        Burst {
+            bytes: [0; LONGEST],
+            len: 1,
+        }
     }
 
     // The record of a burst that a medium carries.
@@ -27,7 +30,10 @@ impl Burst {
         if len == 0 || len > LONGEST {
             return None;
         }
-        Some(Burst { bytes: padded(burst), len })
+        Some(Burst {
+            bytes: padded(burst),
+            len,
+        })
     }
 
     // Copies the burst to the start of the place, and tells its length.

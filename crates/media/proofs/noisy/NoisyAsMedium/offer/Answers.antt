@@ -21,9 +21,10 @@ returns c =
     let k : carried b ≡ true = is-carried b some few in
     let h : i < length b = mod-below (c .args .self .now .offers) (length b) some in
     let x : Takes-in (c .args .self .now .queue) (flipped b i) (c .offer-2 .result) (c .offer-2 .last .self) =
-      subst (λ (ys : List ℕ). Takes-in (c .args .self .now .queue) ys (c .offer-2 .result) (c .offer-2 .last .self))
-        (flipped-is b (c .padded-altered .result) i few h (c .padded-altered .ensures)) (c .offer-2 .ensures .exact) in
+    subst (λ (ys : List ℕ). Takes-in (c .args .self .now .queue) ys (c .offer-2 .result) (c .offer-2 .last .self))
+    (flipped-is b (c .padded-altered .result) i few h (c .padded-altered .ensures)) (c .offer-2 .ensures .exact) in
     record {
       meaning = hit-meaning (c .args .self .now .queue) (c .offer-2 .last .self) b i (c .offer-2 .result) k h (omega (arith, c .typed .burst i)) x;
       exact = hit-sends (c .args .self .now) record { queue = c .offer-2 .last .self; pattern = c .turn .last .self; offers = (c .args .self .now .offers + 1) % 4294967296 }
-        b (c .offer-2 .result) k (sym (c .if-not-turn .ensures tt .value)) (c .turn .ensures .after) refl x }
+          b (c .offer-2 .result) k (sym (c .if-not-turn .ensures tt .value)) (c .turn .ensures .after) refl x;
+    }

@@ -7,5 +7,6 @@ use Rattle.medium.proofs.queue.QueueAsMedium.count.Needs as need
 
 pub returns : need.returns
 returns c = record {
-    value = c .count .ensures ∙ sym (length-map (elements (c .args .self .now .ring)) bytes-of);
-    carried = all-carried (elements (c .args .self .now .ring)) }
+  value = c .count .ensures ∙ sym (length-map (elements (c .args .self .now .ring)) bytes-of);
+  carried = all-carried (elements (c .args .self .now .ring));
+}
