@@ -52,7 +52,7 @@ pub impl<M: Medium> Medium for LossyMedium<M> as LossyAsMedium {
         self.medium.holds_answers()
     }
 
-    fn take(&mut self, place: &mut [u8; 104]) -> usize {
+    fn take(&mut self, place: &mut [u8; LONGEST]) -> usize {
         self.medium.take(place)
     }
 }

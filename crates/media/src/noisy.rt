@@ -73,7 +73,7 @@ pub impl<'a> Medium for NoisyMedium<'a> as NoisyAsMedium {
         self.queue.holds_answers()
     }
 
-    fn take(&mut self, place: &mut [u8; 104]) -> usize {
+    fn take(&mut self, place: &mut [u8; LONGEST]) -> usize {
         self.queue.take(place)
     }
 }

@@ -61,7 +61,7 @@ pub impl<'a> Medium for PackedMedium<'a> as PackedAsMedium {
         packing::holds(&self.ring, Class::Answer)
     }
 
-    fn take(&mut self, place: &mut [u8; 104]) -> usize {
+    fn take(&mut self, place: &mut [u8; LONGEST]) -> usize {
         packing::unpack(&mut self.ring, place)
     }
 }

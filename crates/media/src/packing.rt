@@ -9,6 +9,7 @@ ghost use Rattle.ring.specs.Ring.{elements, places, beyond};
 ghost use Rattle.medium.specs.Bursts.{Carried, first, some-letter};
 ghost use Rattle.medium.specs.Classes.{letters};
 ghost use Rattle.media.specs.Packing.{framed, unpacked, Packs, lying, Lies};
+use medium::LONGEST;
 use medium::class::Class;
 use ring::Ring;
 
@@ -44,7 +45,7 @@ pub(crate) fn pack(ring: &mut Ring<'_, u8>, burst: &[u8]) -> bool
 }
 
 // Takes n bytes out, to the start of the place.
-fn take_all(ring: &mut Ring<'_, u8>, place: &mut [u8; 104], n: usize)
+fn take_all(ring: &mut Ring<'_, u8>, place: &mut [u8; LONGEST], n: usize)
     requires within { ⌜ n ≤ length (elements (now ring)) ⌝ }
     requires few { ⌜ n ≤ 104 ⌝ }
     ensures after { λ _. ⌜ elements (now (ring .exit)) ≡ drop n (elements (now (ring .entry))) ⌝ }
@@ -61,7 +62,7 @@ fn take_all(ring: &mut Ring<'_, u8>, place: &mut [u8; 104], n: usize)
 
 // Takes the first burst out, to the start of the place, and tells its length, or 0 where there
 // is none.
-pub(crate) fn unpack(ring: &mut Ring<'_, u8>, place: &mut [u8; 104]) -> usize
+pub(crate) fn unpack(ring: &mut Ring<'_, u8>, place: &mut [u8; LONGEST]) -> usize
     requires { ⌜ Packs (elements (now ring)) ⌝ }
     ensures value { λ r. ⌜ r ≡ length (first (unpacked (elements (now (ring .entry))))) ⌝ }
     ensures bound { λ r. ⌜ r ≤ 104 ⌝ }

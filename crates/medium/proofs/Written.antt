@@ -21,12 +21,14 @@ take-min b n e =
       | inr h ↦ let k : n - 0 ≡ 104 = omega arith in ap (λ i. take i b) k
     ]
 
--- a burst of n bytes in its array
+-- a burst of n bytes in its array, and what is left there
+rest-of : (b : List ℕ) (n : ℕ) → n ≡ min (length b) 104 → 104 - (n - 0) ≡ 104 - length b
+rest-of b n e = omega arith
+
 pub padded-is : (b c : List ℕ) (n : ℕ) → n ≡ min (length b) 104 → c ≡ take (n - 0) b → c ++ drop (n - 0) (replicate 104 0) ≡ take 104 b ++ replicate (104 - length b) 0
 padded-is b c n e q =
-    let m : 104 - (n - 0) ≡ 104 - length b = omega arith in
     ap (λ x. x ++ drop (n - 0) (replicate 104 0)) (q ∙ take-min b n (omega arith))
-    ∙ ap (λ x. take 104 b ++ x) (drop-replicate (n - 0) 104 0 ∙ ap (λ k. replicate k 0) m)
+    ∙ ap (λ x. take 104 b ++ x) (drop-replicate (n - 0) 104 0 ∙ ap (λ k. replicate k 0) (rest-of b n e))
 
 pub front-padded : (b : List ℕ) → length b ≤ 104 → take (length b) (take 104 b ++ replicate (104 - length b) 0) ≡ b
 front-padded b h = ap (λ x. take (length b) (x ++ replicate (104 - length b) 0)) (take-all 104 b h) ∙ take-at b (replicate (104 - length b) 0) (length b) refl

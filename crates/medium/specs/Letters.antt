@@ -2,11 +2,12 @@
 use Prim.Native.Nat.{ℕ}
 use lib.Dec.{eqb}
 use mathlib.Core.Bool.{Bool, _||_}
+use Rattle.packet.specs.Letters.{is-data, is-ack}
 
 -- E, 0 and 1
 abbrev pub command : ℕ → Bool
-command l = eqb l 0x45 || (eqb l 0x30 || eqb l 0x31)
+command l = eqb l 0x45 || is-data l
 
 -- A, B and R
 abbrev pub answer : ℕ → Bool
-answer l = eqb l 0x41 || (eqb l 0x42 || eqb l 0x52)
+answer l = is-ack l || eqb l 0x52

@@ -1,5 +1,6 @@
 // A medium that is lent is a medium.
 ghost use denote.Ref.{now};
+use crate::LONGEST;
 use crate::Medium;
 use crate::offer::Offer;
 
@@ -26,7 +27,7 @@ pub impl<M: Medium> Medium for &mut M as LentAsMedium {
         (**self).holds_answers()
     }
 
-    fn take(&mut self, place: &mut [u8; 104]) -> usize {
+    fn take(&mut self, place: &mut [u8; LONGEST]) -> usize {
         (**self).take(place)
     }
 }

@@ -52,7 +52,7 @@ pub trait Medium {
 
     // Takes the first burst out, to the start of the place, and tells its length: 0 exactly
     // where there is none.
-    fn take(&mut self, place: &mut [u8; 104]) -> usize
+    fn take(&mut self, place: &mut [u8; LONGEST]) -> usize
         ensures value { λ r. ⌜ r ≡ length (first (bursts (now (self .entry)))) ⌝ }
         ensures bound { λ r. ⌜ r ≤ 104 ⌝ }
         ensures none { λ r. ⌜ (r ≡ 0 → bursts (now (self .entry)) ≡ []) ⌝ }

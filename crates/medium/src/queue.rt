@@ -6,6 +6,7 @@ ghost use lib.ListN.{length, drop};
 ghost use Rattle.medium.specs.Bursts.{some-letter};
 ghost use Rattle.medium.specs.Classes.{letters};
 ghost use Rattle.medium.specs.Queue.{queued, places, beyond, Takes-in, Kept};
+use crate::LONGEST;
 use crate::Medium;
 use crate::burst::Burst;
 use crate::class::Class;
@@ -80,7 +81,7 @@ pub impl<'a> Medium for QueueMedium<'a> as QueueAsMedium {
         self.holds(Class::Answer)
     }
 
-    fn take(&mut self, place: &mut [u8; 104]) -> usize {
+    fn take(&mut self, place: &mut [u8; LONGEST]) -> usize {
         match self.ring.take() {
             None => 0,
             Some(burst) => burst.write(place),
