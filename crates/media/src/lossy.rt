@@ -5,6 +5,7 @@ use crate::pattern::Pattern;
 use medium::LONGEST;
 use medium::Medium;
 use medium::offer::Offer;
+use medium::record::is_carried;
 
 #[derive(Drop)]
 pub struct LossyMedium<M: Medium> {
@@ -33,8 +34,7 @@ pub impl<M: Medium> Medium for LossyMedium<M> as LossyAsMedium {
     ghost takes = { λ m n. M·Medium .takes (m .medium) (n .medium) × (n .pattern ≡ m .pattern) };
 
     fn offer(&mut self, burst: &[u8]) -> Offer {
-        let len = burst.len();
-        if len == 0 || len > LONGEST || self.pattern.turn() {
+        if !is_carried(burst) || self.pattern.turn() {
             return Offer::Spoilt;
         }
         self.medium.offer(burst)

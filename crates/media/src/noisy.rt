@@ -12,6 +12,7 @@ use medium::burst::Burst;
 use medium::offer::Offer;
 use medium::queue::QueueAsMedium;
 use medium::queue::QueueMedium;
+use medium::record::is_carried;
 use medium::record::padded;
 
 #[derive(Drop)]
@@ -46,10 +47,10 @@ pub impl<'a> Medium for NoisyMedium<'a> as NoisyAsMedium {
     ghost takes = { Keeps };
 
     fn offer(&mut self, burst: &[u8]) -> Offer {
-        let len = burst.len();
-        if len == 0 || len > LONGEST {
+        if !is_carried(burst) {
             return Offer::Spoilt;
         }
+        let len = burst.len();
         let at = self.offers as usize % len;
         self.offers = self.offers.wrapping_add(1);
         if !self.pattern.turn() {

@@ -11,6 +11,7 @@ use medium::LONGEST;
 use medium::Medium;
 use medium::class::Class;
 use medium::offer::Offer;
+use medium::record::is_carried;
 use ring::Ring;
 
 // The most bytes of a packed medium, lengths counted.
@@ -38,8 +39,7 @@ pub impl<'a> Medium for PackedMedium<'a> as PackedAsMedium {
     ghost takes = { Holds };
 
     fn offer(&mut self, burst: &[u8]) -> Offer {
-        let len = burst.len();
-        if len == 0 || len > LONGEST {
+        if !is_carried(burst) {
             return Offer::Spoilt;
         }
         if packing::pack(&mut self.ring, burst) {

@@ -1,12 +1,12 @@
 // A burst goes into its record and out of it.
 ghost use mathlib.Core.Path.{_≡_};
-ghost use mathlib.Core.Bool.{cond};
+ghost use mathlib.Core.Bool.{cond, true};
 ghost use mathlib.Core.List.{_++_, _∷_, []};
 ghost use Prim.Native.Nat.{_-_};
 ghost use lib.ListN.{length, getD, take, drop, replicate};
 ghost use Rattle.std.specs.Options.{mapped};
 ghost use Rattle.std.specs.declared.option.Option.the-variants.{Some, None};
-ghost use Rattle.medium.specs.Bursts.{carried};
+ghost use Rattle.medium.specs.Bursts.{Carried, carried};
 ghost use Rattle.medium.specs.Records.{bytes-of};
 use crate::LONGEST;
 use crate::burst::Burst;
@@ -26,13 +26,12 @@ impl Burst {
     pub(crate) fn of(burst: &[u8]) -> Option<Burst>
         ensures { λ r. ⌜ mapped bytes-of r ≡ cond (carried (now (burst .entry))) (Some (now (burst .entry))) None ⌝ }
     {
-        let len = burst.len();
-        if len == 0 || len > LONGEST {
+        if !is_carried(burst) {
             return None;
         }
         Some(Burst {
             bytes: padded(burst),
-            len,
+            len: burst.len(),
         })
     }
 
@@ -55,6 +54,14 @@ impl Burst {
         }
         self.bytes[1]
     }
+}
+
+// Whether a medium carries the burst: it has 1 to 104 bytes.
+pub fn is_carried(burst: &[u8]) -> bool
+    ensures value { λ r. ⌜ r ≡ carried (now (burst .entry)) ⌝ }
+    ensures bounds { λ r. ⌜ (r ≡ true → Carried (now (burst .entry))) ⌝ }
+{
+    1 <= burst.len() && burst.len() <= LONGEST
 }
 
 // The first 104 bytes of a burst, and zeros behind them.
