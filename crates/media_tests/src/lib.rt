@@ -1,18 +1,18 @@
 // Rings and media on examples.
 #[cfg(test)]
 mod tests {
-    use media::lossy::LossyAsMedium;
-    use media::lossy::LossyMedium;
-    use media::noisy::NoisyAsMedium;
-    use media::noisy::NoisyMedium;
-    use media::packed::PackedMedium;
-    use media::packed_medium::PackedAsMedium;
     use medium::Medium;
     use medium::burst::Burst;
     use medium::lent::LentAsMedium;
     use medium::offer::Offer;
     use medium::queue::QueueAsMedium;
     use medium::queue::QueueMedium;
+    use noise::lossy::LossyAsMedium;
+    use noise::lossy::LossyMedium;
+    use noise::noisy::NoisyAsMedium;
+    use noise::noisy::NoisyMedium;
+    use packing::packed::PackedMedium;
+    use packing::packed_medium::PackedAsMedium;
     use ring::Ring;
     use std::test::*;
 

@@ -1,7 +1,0 @@
-use mathlib.Core.Path.{refl, _∙_}
-use native.Mathlib.Omega.{arith}
-use Rattle.media.proofs.Turning.{turned-is}
-use Rattle.media.proofs.pattern.Pattern.turn.Needs as need
-
-pub returns : need.returns
-returns c = record { value = refl; after = c .rotate-left-self .ensures ∙ turned-is (c .args .self .now .bits) (omega arith) }
