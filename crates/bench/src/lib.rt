@@ -1,3 +1,4 @@
 // What is printed for a line of a script.
 mod answer;
+pub mod media;
 pub mod run;

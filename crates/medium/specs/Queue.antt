@@ -25,6 +25,10 @@ places q = ring.places (q .ring)
 abbrev pub beyond : QueueMedium → List Burst
 beyond q = ring.beyond (q .ring)
 
+-- all memory that it was lent
+abbrev pub memory : QueueMedium → List Burst
+memory q = ring.memory (q .ring)
+
 -- a place is free
 abbrev pub free : QueueMedium → Bool
 free q = ltb (length (queued q)) (places q)

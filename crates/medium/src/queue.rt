@@ -5,7 +5,7 @@ ghost use Prim.Native.Nat.{min};
 ghost use lib.ListN.{length, drop};
 ghost use Rattle.medium.specs.Bursts.{some-letter};
 ghost use Rattle.medium.specs.Classes.{letters};
-ghost use Rattle.medium.specs.Queue.{queued, places, beyond, Takes-in, Kept};
+ghost use Rattle.medium.specs.Queue.{queued, places, beyond, memory, Takes-in, Kept};
 use crate::LONGEST;
 use crate::Medium;
 use crate::burst::Burst;
@@ -32,6 +32,15 @@ impl<'a> QueueMedium<'a> {
         QueueMedium {
             ring: Ring::over(slots, QUEUE_LIMIT),
         }
+    }
+
+    // Starts anew with nothing under way, in up to `limit` places of its memory.
+    pub fn restart(&mut self, limit: usize)
+        ensures bursts { λ _. ⌜ queued (now (self .exit)) ≡ [] ⌝ }
+        ensures places { λ _. ⌜ places (now (self .exit)) ≡ min (length (memory (now (self .entry)))) (min limit 4096) ⌝ }
+        ensures memory { λ _. ⌜ memory (now (self .exit)) ≡ memory (now (self .entry)) ⌝ }
+    {
+        self.ring.restart(limit.min(QUEUE_LIMIT));
     }
 
     // Whether a burst under way has a letter of the class.

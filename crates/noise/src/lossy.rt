@@ -9,7 +9,7 @@ use medium::record::is_carried;
 
 #[derive(Drop)]
 pub struct LossyMedium<M: Medium> {
-    medium: M,
+    pub medium: M,
     pattern: Pattern,
 }
 
@@ -23,6 +23,14 @@ impl<M: Medium> LossyMedium<M> {
             medium,
             pattern: Pattern { bits: pattern },
         }
+    }
+
+    // Starts its losses anew; the medium stays as it is.
+    pub fn restart(&mut self, pattern: u32)
+        ensures medium { λ _. ⌜ now (self .exit) .medium ≡ now (self .entry) .medium ⌝ }
+        ensures pattern { λ _. ⌜ now (self .exit) .pattern .bits ≡ pattern ⌝ }
+    {
+        self.pattern = Pattern { bits: pattern };
     }
 }
 

@@ -3,7 +3,7 @@ ghost use mathlib.Core.Path.{_≡_};
 ghost use mathlib.Core.List.{[]};
 ghost use Prim.Native.Nat.{min};
 ghost use lib.ListN.{length, drop};
-ghost use Rattle.medium.specs.Queue.{queued, places, beyond};
+ghost use Rattle.medium.specs.Queue.{queued, places, beyond, memory};
 ghost use Rattle.noise.specs.Noisy.{Sends, Keeps};
 use crate::pattern::Pattern;
 use medium::LONGEST;
@@ -36,6 +36,19 @@ impl<'a> NoisyMedium<'a> {
             pattern: Pattern { bits: pattern },
             offers: 0,
         }
+    }
+
+    // Starts anew with nothing under way and offered nothing yet, in up to `limit` places.
+    pub fn restart(&mut self, limit: usize, pattern: u32)
+        ensures bursts { λ _. ⌜ queued (now (self .exit) .queue) ≡ [] ⌝ }
+        ensures places { λ _. ⌜ places (now (self .exit) .queue) ≡ min (length (memory (now (self .entry) .queue))) (min limit 4096) ⌝ }
+        ensures memory { λ _. ⌜ memory (now (self .exit) .queue) ≡ memory (now (self .entry) .queue) ⌝ }
+        ensures pattern { λ _. ⌜ now (self .exit) .pattern .bits ≡ pattern ⌝ }
+        ensures offers { λ _. ⌜ now (self .exit) .offers ≡ 0 ⌝ }
+    {
+        self.queue.restart(limit);
+        self.pattern = Pattern { bits: pattern };
+        self.offers = 0;
     }
 }
 

@@ -3,7 +3,7 @@ ghost use mathlib.Core.Path.{_≡_};
 ghost use mathlib.Core.List.{[]};
 ghost use Prim.Native.Nat.{min};
 ghost use lib.ListN.{length, drop};
-ghost use Rattle.ring.specs.Ring.{places, beyond};
+ghost use Rattle.ring.specs.Ring.{places, beyond, memory};
 ghost use Rattle.packing.specs.Packed.{carries, Packs-in, Holds};
 use crate::packed::PackedMedium;
 use crate::rows;
@@ -28,6 +28,15 @@ impl<'a> PackedMedium<'a> {
         PackedMedium {
             ring: Ring::over(slots, PACKED_LIMIT),
         }
+    }
+
+    // Starts anew with nothing under way, in up to `limit` bytes of its memory.
+    pub fn restart(&mut self, limit: usize)
+        ensures bursts { λ _. ⌜ carries (now (self .exit)) ≡ [] ⌝ }
+        ensures places { λ _. ⌜ places (now (self .exit) .ring) ≡ min (length (memory (now (self .entry) .ring))) (min limit 65536) ⌝ }
+        ensures memory { λ _. ⌜ memory (now (self .exit) .ring) ≡ memory (now (self .entry) .ring) ⌝ }
+    {
+        self.ring.restart(limit.min(PACKED_LIMIT));
     }
 }
 

@@ -17,3 +17,7 @@ places r = room (now (r .slots)) (r .span)
 -- the memory beyond its limit
 abbrev pub beyond : {X : Type 0} → Ring X → List X
 beyond r = drop (r .span .limit) (now (r .slots))
+
+-- all memory that it was lent
+abbrev pub memory : {X : Type 0} → Ring X → List X
+memory r = now (r .slots)

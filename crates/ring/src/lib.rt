@@ -8,7 +8,7 @@ ghost use Prim.Native.Nat.{min};
 ghost use lib.Dec.{ltb};
 ghost use lib.ListN.{length, drop};
 ghost use Rattle.std.specs.Runs.{nth};
-ghost use Rattle.ring.specs.Ring.{elements, places, beyond};
+ghost use Rattle.ring.specs.Ring.{elements, places, beyond, memory};
 ghost use Rattle.ring.specs.Slots.{held};
 use slots::Span;
 
@@ -30,6 +30,15 @@ impl<'a, T: Copy> Ring<'a, T> {
             slots,
             span: Span::empty(limit),
         }
+    }
+
+    // Starts anew, empty, with up to `limit` places of its memory.
+    pub fn restart(&mut self, limit: usize)
+        ensures elements { λ _. ⌜ elements (now (self .exit)) ≡ [] ⌝ }
+        ensures places { λ _. ⌜ places (now (self .exit)) ≡ min (length (memory (now (self .entry)))) limit ⌝ }
+        ensures memory { λ _. ⌜ memory (now (self .exit)) ≡ memory (now (self .entry)) ⌝ }
+    {
+        self.span = Span::empty(limit);
     }
 
     // For how many elements it has places.

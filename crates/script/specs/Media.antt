@@ -41,12 +41,12 @@ base w =
     cond (sameBytes (before 0x3a w) (codes "queue")) (mapped Queue (size 4096 (after 0x3a w)))
     (cond (sameBytes (before 0x3a w) (codes "packed")) (mapped Packed (size 65536 (after 0x3a w)))
     (cond (sameBytes (before 0x3a w) (codes "noisy"))
-      (with (size 4096 (before 0x3a (after 0x3a w))) λ n. mapped (Noisy n) (pattern (after 0x3a (after 0x3a w))))
-      None))
+    (with (size 4096 (before 0x3a (after 0x3a w))) λ n. mapped (Noisy n) (pattern (after 0x3a (after 0x3a w))))
+    None))
 
 -- the same, or a pattern of loss and then, behind a slash, the same
 abbrev pub spec : List ℕ → Option Spec
 spec w =
     cond (sameBytes (before 0x3a w) (codes "lossy"))
-      (with (pattern (before 0x2f (after 0x3a w))) λ p. mapped (a-spec (Some p)) (base (after 0x2f (after 0x3a w))))
-      (mapped (a-spec None) (base w))
+    (with (pattern (before 0x2f (after 0x3a w))) λ p. mapped (a-spec (Some p)) (base (after 0x2f (after 0x3a w))))
+    (mapped (a-spec None) (base w))

@@ -9,6 +9,7 @@ use notation::words::split;
 
 // The most bursts of a queue, and the most bytes of a packed medium.
 const PLACES: u32 = 4096;
+
 const BYTES: u32 = 65536;
 
 #[derive(Clone, Copy)]
