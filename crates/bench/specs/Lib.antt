@@ -1,2 +1,3 @@
 pub mod Media
 pub mod Printed
+pub mod Starts

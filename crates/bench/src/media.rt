@@ -5,10 +5,14 @@ ghost use lib.ListN.{length, drop};
 ghost use Rattle.std.specs.Options.{mapped, valueOr};
 ghost use Rattle.medium.specs.Bursts.{first, some-letter};
 ghost use Rattle.medium.specs.Letters.{command, answer};
-ghost use Rattle.bench.specs.Media.{under-way, offer-answer, taken-to};
+ghost use Rattle.bench.specs.Media.{under-way, offer-answer, taken-to, Starts};
+use crate::restart::LentRestarts;
+use crate::restart::PackedRestarts;
+use crate::restart::start;
 use medium::LONGEST;
 use medium::Medium;
 use medium::burst::Burst;
+use medium::lent::LentAsMedium;
 use medium::offer::Offer;
 use medium::queue::QueueAsMedium;
 use medium::queue::QueueMedium;
@@ -32,26 +36,32 @@ pub enum Made {
 // The medium of a name, once it is made. Its memory serves for every kind; a medium that loses
 // nothing is one whose pattern of loss has no bit.
 #[derive(Drop)]
-pub struct NamedMedium<'a> {
+pub struct NamedMedium<'a, 'p> {
     made: Made,
     queue: LossyMedium<QueueMedium<'a>>,
-    packed: LossyMedium<PackedMedium<'a>>,
+    packed: LossyMedium<&'p mut PackedMedium<'a>>,
     noisy: LossyMedium<NoisyMedium<'a>>,
 }
 
-impl<'a> NamedMedium<'a> {
+impl<'a, 'p> NamedMedium<'a, 'p> {
     // A name without a medium.
-    pub fn over(queue: &'a mut [Burst], packed: &'a mut [u8], noisy: &'a mut [Burst]) -> Self {
+    pub fn over(
+        queue: &'a mut [Burst],
+        packed: &'p mut PackedMedium<'a>,
+        noisy: &'a mut [Burst],
+    ) -> Self {
         NamedMedium {
             made: Made::Nothing,
             queue: LossyMedium::over(QueueMedium::over(queue), 0),
-            packed: LossyMedium::over(PackedMedium::over(packed), 0),
+            packed: LossyMedium::over(packed, 0),
             noisy: LossyMedium::over(NoisyMedium::over(noisy, 0), 0),
         }
     }
 
     // Makes a medium; one that the name had is gone.
-    pub fn make(&mut self, spec: Spec) {
+    pub fn make(&mut self, spec: Spec)
+        ensures { λ _. ⌜ Starts (spec .base) (valueOr (spec .loss) 0) (now (self .entry)) (now (self .exit)) ⌝ }
+    {
         let loss = spec.loss.unwrap_or(0);
         match spec.base {
             Base::Queue { places } => {
@@ -61,7 +71,7 @@ impl<'a> NamedMedium<'a> {
             }
             Base::Packed { bytes } => {
                 self.made = Made::Packed;
-                self.packed.medium.restart(bytes);
+                start(&mut self.packed.medium, bytes);
                 self.packed.restart(loss);
             }
             Base::Noisy { places, pattern } => {
@@ -126,7 +136,7 @@ impl<'a> NamedMedium<'a> {
 
 // A medium for each name.
 #[derive(Drop)]
-pub struct Workbench<'a> {
-    pub m: NamedMedium<'a>,
-    pub n: NamedMedium<'a>,
+pub struct Workbench<'a, 'p> {
+    pub m: NamedMedium<'a, 'p>,
+    pub n: NamedMedium<'a, 'p>,
 }

@@ -35,7 +35,11 @@ use std::alloc::Global;
 const FILL: u8 = 0xEE;
 
 // What is printed for a line, with or without its end: no bytes where nothing is asked.
-pub fn run_line(heap: Global, bench: &mut Workbench<'_>, line: &[u8]) -> Result<String, AllocError>
+pub fn run_line(
+    heap: Global,
+    bench: &mut Workbench<'_, '_>,
+    line: &[u8],
+) -> Result<String, AllocError>
     ensures { λ r. ⌜ made r (λ s. string-bytes s ≡ printed (now (bench .entry)) (now (line .entry))) ⌝ }
 {
     match parse(without_end(line)) {
@@ -60,7 +64,7 @@ pub fn run_line(heap: Global, bench: &mut Workbench<'_>, line: &[u8]) -> Result<
 // `medium`, of the medium that the line names.
 fn medium_call(
     heap: Global,
-    medium: &mut NamedMedium<'_>,
+    medium: &mut NamedMedium<'_, '_>,
     call: MediumCall<'_>,
 ) -> Result<String, AllocError>
     ensures { λ r. ⌜ made r (λ s. string-bytes s ≡ call-line (now (medium .entry)) (call-of (call .entry))) ⌝ }
@@ -84,7 +88,11 @@ fn medium_call(
 }
 
 // `medium NAME offer`
-fn offer(heap: Global, medium: &mut NamedMedium<'_>, burst: Bytes<'_>) -> Result<String, AllocError>
+fn offer(
+    heap: Global,
+    medium: &mut NamedMedium<'_, '_>,
+    burst: Bytes<'_>,
+) -> Result<String, AllocError>
     ensures { λ r. ⌜ made r (λ s. string-bytes s ≡ call-line (now (medium .entry)) (offer (bytes-of (burst .entry)))) ⌝ }
 {
     let burst = bytes(heap, burst)?;
@@ -95,7 +103,7 @@ fn offer(heap: Global, medium: &mut NamedMedium<'_>, burst: Bytes<'_>) -> Result
 }
 
 // `medium NAME take`
-fn take(heap: Global, medium: &mut NamedMedium<'_>) -> Result<String, AllocError>
+fn take(heap: Global, medium: &mut NamedMedium<'_, '_>) -> Result<String, AllocError>
     ensures { λ r. ⌜ made r (λ s. string-bytes s ≡ call-line (now (medium .entry)) take) ⌝ }
 {
     let mut place = [FILL; LONGEST];

@@ -9,6 +9,7 @@ use lines::Taken;
 use lines::take_line;
 use medium::burst::Burst;
 use medium::queue::QUEUE_LIMIT;
+use packing::packed::PackedMedium;
 use packing::packed_medium::PACKED_LIMIT;
 use std::io;
 use std::io::BufReader;
@@ -20,11 +21,13 @@ fn main(rt: LibcRuntime) -> io::Result<()> {
     let mut input = BufReader::new(rt.stdin());
     let mut output = BufWriter::new(rt.stdout());
     let mut m_queue = vec![in heap; Burst::blank(); QUEUE_LIMIT]?;
-    let mut m_packed = vec![in heap; 0u8; PACKED_LIMIT]?;
+    let mut m_bytes = vec![in heap; 0u8; PACKED_LIMIT]?;
     let mut m_noisy = vec![in heap; Burst::blank(); QUEUE_LIMIT]?;
     let mut n_queue = vec![in heap; Burst::blank(); QUEUE_LIMIT]?;
-    let mut n_packed = vec![in heap; 0u8; PACKED_LIMIT]?;
+    let mut n_bytes = vec![in heap; 0u8; PACKED_LIMIT]?;
     let mut n_noisy = vec![in heap; Burst::blank(); QUEUE_LIMIT]?;
+    let mut m_packed = PackedMedium::over(&mut m_bytes);
+    let mut n_packed = PackedMedium::over(&mut n_bytes);
     let mut bench = Workbench {
         m: NamedMedium::over(&mut m_queue, &mut m_packed, &mut m_noisy),
         n: NamedMedium::over(&mut n_queue, &mut n_packed, &mut n_noisy),
