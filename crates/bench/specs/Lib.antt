@@ -1,1 +1,3 @@
+pub mod Media
 pub mod Printed
+pub mod Starts

@@ -1,12 +1,14 @@
 // What is printed for a call's answer.
 ghost use mathlib.Core.Path.{_≡_};
+ghost use mathlib.Core.List.{_++_};
 ghost use lib.ListN.{length};
 ghost use Rattle.std.specs.Of.String.{string-bytes};
 ghost use Rattle.std.specs.Vec.{made};
-ghost use Rattle.std.specs.declared.result.Result.the-variants.{Err};
+ghost use Rattle.std.specs.Written.{decimal};
 ghost use Rattle.packet.specs.Packets.{told as packet-told};
 ghost use Rattle.packet.specs.Refusals.{gave, number-of};
-ghost use Rattle.bench.specs.Printed.{refusal, read-line, write-line, said};
+ghost use Rattle.bench.specs.Printed.{end, refusal, read-line, write-line, offer-line, holds-line, wrong};
+use medium::offer::Offer;
 use notation::hex::hex;
 use packet::reader::Packet;
 use packet::refusal::Refusal;
@@ -42,8 +44,29 @@ pub fn written(heap: Global, burst: &[u8]) -> Result<String, AllocError>
     format!(heap, "length={length} burst={burst}\n")
 }
 
+pub fn offered(heap: Global, offer: Offer) -> Result<String, AllocError>
+    ensures { λ r. ⌜ made r (λ s. string-bytes s ≡ offer-line offer) ⌝ }
+{
+    match offer {
+        Offer::Whole => String::from_str(heap, "whole\n"),
+        Offer::Spoilt => String::from_str(heap, "spoilt\n"),
+    }
+}
+
+pub fn counted(heap: Global, n: usize) -> Result<String, AllocError>
+    ensures { λ r. ⌜ made r (λ s. string-bytes s ≡ decimal n ++ end) ⌝ }
+{
+    format!(heap, "{n}\n")
+}
+
+pub fn holding(heap: Global, commands: bool, answers: bool) -> Result<String, AllocError>
+    ensures { λ r. ⌜ made r (λ s. string-bytes s ≡ holds-line commands answers) ⌝ }
+{
+    format!(heap, "commands={commands} answers={answers}\n")
+}
+
 pub fn wrong(heap: Global, fault: Fault) -> Result<String, AllocError>
-    ensures { λ r. ⌜ made r (λ s. string-bytes s ≡ said (Err fault)) ⌝ }
+    ensures { λ r. ⌜ made r (λ s. string-bytes s ≡ wrong fault) ⌝ }
 {
     let text = fault.text();
     format!(heap, "error: {text}\n")

@@ -5,10 +5,13 @@ ghost use Rattle.std.specs.Of.String.{string-bytes};
 ghost use Rattle.std.specs.Of.Vec.{vec-items};
 ghost use Rattle.std.specs.Vec.{made};
 ghost use Rattle.packet.specs.Format.{packet, reading, writing};
-ghost use Rattle.bench.specs.Printed.{read-line, write-line, answered, printed, out-of-memory};
-ghost use Rattle.script.specs.Commands.{Request, read, write};
-ghost use Rattle.script.specs.Told.{bytes-of};
+ghost use Rattle.bench.specs.Printed.{read-line, write-line, check, call-line, printed, out-of-memory};
+ghost use Rattle.script.specs.Media.{offer, take};
+ghost use Rattle.script.specs.Told.{bytes-of, call-of};
 use crate::answer;
+use crate::media::NamedMedium;
+use crate::media::Workbench;
+use medium::LONGEST;
 use notation::hex::decode;
 use notation::words::without_end;
 use packet::checks::Check;
@@ -22,6 +25,9 @@ use script::command::Bytes;
 use script::command::Command;
 use script::command::Kind;
 use script::command::parse;
+use script::fault::Fault;
+use script::media::MediumCall;
+use script::media::Name;
 use std::alloc::AllocError;
 use std::alloc::Global;
 
@@ -29,8 +35,12 @@ use std::alloc::Global;
 const FILL: u8 = 0xEE;
 
 // What is printed for a line, with or without its end: no bytes where nothing is asked.
-pub fn run_line(heap: Global, line: &[u8]) -> Result<String, AllocError>
-    ensures { λ r. ⌜ made r (λ s. string-bytes s ≡ printed (now (line .entry))) ⌝ }
+pub fn run_line(
+    heap: Global,
+    bench: &mut Workbench<'_, '_>,
+    line: &[u8],
+) -> Result<String, AllocError>
+    ensures { λ r. ⌜ made r (λ s. string-bytes s ≡ printed (now (bench .entry)) (now (line .entry))) ⌝ }
 {
     match parse(without_end(line)) {
         Ok(Command::Blank) => Ok(String::new(heap)),
@@ -43,7 +53,63 @@ pub fn run_line(heap: Global, line: &[u8]) -> Result<String, AllocError>
                 size,
             },
         ) => packet_write(heap, kind, letter, field, size),
+        Ok(Command::Medium { name, call }) => match name {
+            Name::M => medium_call(heap, &mut bench.m, call),
+            Name::N => medium_call(heap, &mut bench.n, call),
+        },
         Err(fault) => answer::wrong(heap, fault),
+    }
+}
+
+// `medium`, of the medium that the line names.
+fn medium_call(
+    heap: Global,
+    medium: &mut NamedMedium<'_, '_>,
+    call: MediumCall<'_>,
+) -> Result<String, AllocError>
+    ensures { λ r. ⌜ made r (λ s. string-bytes s ≡ call-line (now (medium .entry)) (call-of (call .entry))) ⌝ }
+{
+    match call {
+        MediumCall::Make(spec) => {
+            medium.make(spec);
+            String::from_str(heap, "made\n")
+        }
+        MediumCall::Offer(burst) => offer(heap, medium, burst),
+        MediumCall::Take => take(heap, medium),
+        MediumCall::Count => match medium.count() {
+            Some(n) => answer::counted(heap, n),
+            None => answer::wrong(heap, Fault::Unmade),
+        },
+        MediumCall::Holds => match medium.holds() {
+            Some((commands, answers)) => answer::holding(heap, commands, answers),
+            None => answer::wrong(heap, Fault::Unmade),
+        },
+    }
+}
+
+// `medium NAME offer`
+fn offer(
+    heap: Global,
+    medium: &mut NamedMedium<'_, '_>,
+    burst: Bytes<'_>,
+) -> Result<String, AllocError>
+    ensures { λ r. ⌜ made r (λ s. string-bytes s ≡ call-line (now (medium .entry)) (offer (bytes-of (burst .entry)))) ⌝ }
+{
+    let burst = bytes(heap, burst)?;
+    match medium.offer(&burst) {
+        Some(offer) => answer::offered(heap, offer),
+        None => answer::wrong(heap, Fault::Unmade),
+    }
+}
+
+// `medium NAME take`
+fn take(heap: Global, medium: &mut NamedMedium<'_, '_>) -> Result<String, AllocError>
+    ensures { λ r. ⌜ made r (λ s. string-bytes s ≡ call-line (now (medium .entry)) take) ⌝ }
+{
+    let mut place = [FILL; LONGEST];
+    match medium.take(&mut place) {
+        Some(length) => answer::written(heap, &place[0..length]),
+        None => answer::wrong(heap, Fault::Unmade),
     }
 }
 
@@ -56,7 +122,7 @@ pub fn out_of_memory() -> &'static str
 
 // `packet read`
 fn packet_read(heap: Global, kind: Kind, burst: Bytes<'_>) -> Result<String, AllocError>
-    ensures { λ r. ⌜ made r (λ s. string-bytes s ≡ answered (read kind (bytes-of (burst .entry)))) ⌝ }
+    ensures { λ r. ⌜ made r (λ s. string-bytes s ≡ read-line (reading 1 (check kind) (bytes-of (burst .entry)))) ⌝ }
 {
     let burst = bytes(heap, burst)?;
     match kind {
@@ -73,7 +139,7 @@ fn packet_write(
     field: Bytes<'_>,
     size: usize,
 ) -> Result<String, AllocError>
-    ensures { λ r. ⌜ made r (λ s. string-bytes s ≡ answered (write kind letter (bytes-of (field .entry)) size)) ⌝ }
+    ensures { λ r. ⌜ made r (λ s. string-bytes s ≡ write-line (writing 1 letter (bytes-of (field .entry)) size) (packet (check kind) letter (bytes-of (field .entry)))) ⌝ }
 {
     let field = bytes(heap, field)?;
     match kind {

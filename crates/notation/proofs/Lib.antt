@@ -1,3 +1,4 @@
 mod Every
 mod Pairs
+mod Patterns
 mod Sizes

@@ -2,11 +2,12 @@
 use mathlib.Core.Bool.{Bool, cond, not, _&&_}
 use mathlib.Core.List.{List, [], _∷_}
 use Prim.Native.Nat.{ℕ, _+_, _-_, _*_, _/_, _%_}
-use lib.Dec.{eqb, ltb}
+use lib.Dec.{eqb, leb, ltb}
 use lib.ListN.{length}
 use Rattle.std.specs.declared.option.Option.{Option}
 use Rattle.std.specs.declared.option.Option.the-variants.{Some, None}
 use Rattle.std.specs.Options.{isSome, valueOr}
+use Rattle.std.specs.shelf.Lists.{folded}
 use Rattle.std.specs.shelf.Text.{sameBytes}
 use Rattle.notation.specs.Bytes.{between, every}
 
@@ -37,6 +38,14 @@ decoded (high ∷ low ∷ rest) = byte high low ∷ decoded rest
 -- the bytes that a word stands for: `-` is none
 abbrev pub unhex : List ℕ → Option (List ℕ)
 unhex word = cond (sameBytes word (0x2d ∷ [])) (Some []) (cond (are-pairs word) (Some (decoded word)) None)
+
+-- the number that digits write
+abbrev pub value : List ℕ → ℕ
+value word = folded (λ n c. n * 16 + valueOr (digit c) 0) 0 word
+
+-- a pattern of 32 bits: one to eight digits
+abbrev pub pattern : List ℕ → Option ℕ
+pattern word = cond (every is-digit word && (not (eqb (length word) 0) && leb (length word) 8)) (Some (value word)) None
 
 -- the upper-case digit of a value below 16
 abbrev pub figure : ℕ → ℕ

@@ -14,6 +14,6 @@ use Rattle.notation.specs.Bytes.{every}
 abbrev pub number : List ℕ → ℕ
 number word = folded (λ n c. n * 10 + (c - 0x30)) 0 word
 
--- one or more digits, of a number from 0 to 65536
-abbrev pub size : List ℕ → Option ℕ
-size word = cond (every asciiDigit word && (not (eqb (length word) 0) && leb (number word) 65536)) (Some (number word)) None
+-- one or more digits, of a number from 0 to the largest
+abbrev pub size : ℕ → List ℕ → Option ℕ
+size largest word = cond (every asciiDigit word && (not (eqb (length word) 0) && leb (number word) largest)) (Some (number word)) None

@@ -12,9 +12,17 @@ is-space b = eqb b 0x20
 abbrev pub is-other : ℕ → ℕ → Bool
 is-other stop b = not (eqb b stop)
 
+-- what stands before the first `stop`
+abbrev pub before : ℕ → List ℕ → List ℕ
+before stop bytes = take (leading (is-other stop) bytes) bytes
+
+-- what follows it, with no bytes where there is none
+abbrev pub after : ℕ → List ℕ → List ℕ
+after stop bytes = drop 1 (drop (leading (is-other stop) bytes) bytes)
+
 -- a line up to its end, the byte 0a
 abbrev pub without-end : List ℕ → List ℕ
-without-end line = take (leading (is-other 0x0a) line) line
+without-end line = before 0x0a line
 
 -- the line after its leading spaces
 abbrev pub trimmed : List ℕ → List ℕ
@@ -22,8 +30,8 @@ trimmed line = drop (leading is-space line) line
 
 -- a line's first word, with no bytes where there is none
 abbrev pub word : List ℕ → List ℕ
-word line = take (leading (is-other 0x20) (trimmed line)) (trimmed line)
+word line = before 0x20 (trimmed line)
 
 -- what follows that word
 abbrev pub left : List ℕ → List ℕ
-left line = drop (leading (is-other 0x20) (trimmed line)) (trimmed line)
+left line = after 0x20 (trimmed line)

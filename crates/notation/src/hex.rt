@@ -6,7 +6,7 @@ ghost use Rattle.std.specs.Of.String.{string-bytes};
 ghost use Rattle.std.specs.Of.Vec.{vec-items};
 ghost use Rattle.std.specs.Vec.{made};
 ghost use Rattle.std.specs.declared.option.Option.the-variants.{Some};
-ghost use Rattle.notation.specs.Hex.{digit, byte, are-pairs, decoded, figure, hex, unhex};
+ghost use Rattle.notation.specs.Hex.{digit, byte, are-pairs, decoded, pattern, figure, hex, unhex};
 use std::alloc::AllocError;
 use std::alloc::Global;
 
@@ -52,6 +52,23 @@ pub fn decode(heap: Global, pairs: &[u8]) -> Result<Vec<u8>, AllocError>
         rest = after;
     }
     Ok(bytes)
+}
+
+// A pattern of 32 bits: one to eight digits.
+pub fn pattern(word: &[u8]) -> Option<u32>
+    ensures { λ r. ⌜ r ≡ pattern (now (word .entry)) ⌝ }
+{
+    if word.is_empty() || word.len() > 8 {
+        return None;
+    }
+    let mut bits = 0u32;
+    for c in word {
+        match digit(*c) {
+            Some(value) => bits = bits * 16 + u32::from(value),
+            None => return None,
+        }
+    }
+    Some(bits)
 }
 
 // The upper-case digit of a value below 16.

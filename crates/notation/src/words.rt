@@ -3,7 +3,7 @@ ghost use mathlib.Core.Path.{_≡_};
 ghost use Prim.Native.Nat.{_≤_};
 ghost use lib.ListN.{length};
 ghost use Rattle.std.specs.shelf.Lists.{leading};
-ghost use Rattle.notation.specs.Words.{is-space, is-other, without-end, trimmed, word, left};
+ghost use Rattle.notation.specs.Words.{is-space, is-other, before, after, without-end, trimmed, word, left};
 
 // How many spaces stand at the front.
 fn spaces(line: &[u8]) -> usize
@@ -31,11 +31,23 @@ pub fn length_before(bytes: &[u8], stop: u8) -> usize
     bytes.len()
 }
 
+// What stands before the first `stop`, and what follows it: no bytes where there is none.
+pub fn split(bytes: &[u8], stop: u8) -> (&[u8], &[u8])
+    ensures before { λ r. ⌜ now (r .0) ≡ before stop (now (bytes .entry)) ⌝ }
+    ensures after { λ r. ⌜ now (r .1) ≡ after stop (now (bytes .entry)) ⌝ }
+{
+    let (before, rest) = bytes.split_at(length_before(bytes, stop));
+    match rest {
+        [_, after @ ..] => (before, after),
+        [] => (before, rest),
+    }
+}
+
 // A line without the line end that it may have.
 pub fn without_end(line: &[u8]) -> &[u8]
     ensures { λ r. ⌜ now r ≡ without-end (now (line .entry)) ⌝ }
 {
-    let (bytes, _) = line.split_at(length_before(line, b'\n'));
+    let (bytes, _) = split(line, b'\n');
     bytes
 }
 
@@ -53,6 +65,5 @@ pub fn split_word(line: &[u8]) -> (&[u8], &[u8])
     ensures word { λ r. ⌜ now (r .0) ≡ word (now (line .entry)) ⌝ }
     ensures left { λ r. ⌜ now (r .1) ≡ left (now (line .entry)) ⌝ }
 {
-    let line = trimmed(line);
-    line.split_at(length_before(line, b' '))
+    split(trimmed(line), b' ')
 }

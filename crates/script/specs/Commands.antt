@@ -1,5 +1,5 @@
 -- What a line asks for. Assumes nothing.
-use mathlib.Core.Bool.{Bool, cond, not, _&&_, _||_}
+use mathlib.Core.Bool.{Bool, cond, _&&_, _||_}
 use mathlib.Core.List.{List, []}
 use Prim.Native.Nat.{ℕ}
 use lib.Chars.{codes}
@@ -16,6 +16,8 @@ use Rattle.notation.specs.Numbers.{size}
 use Rattle.notation.specs.Words.{trimmed, word, left}
 use Rattle.script.specs.declared.command.Kind.{Kind}
 use Rattle.script.specs.declared.command.Kind.the-variants.{Sum, Xor}
+use Rattle.script.specs.declared.media.Name.{Name}
+use Rattle.script.specs.Media.{Call, make, offer, take, count, holds, name, spec}
 use Rattle.script.specs.declared.fault.Fault.{Fault}
 use Rattle.script.specs.declared.fault.Fault.the-variants as fault
 
@@ -24,6 +26,7 @@ pub data Request : Type 0 where
   nothing : Request
   read : Kind → List ℕ → Request
   write : Kind → ℕ → List ℕ → ℕ → Request
+  medium : Name → Call → Request
 
 abbrev pub is-empty : List ℕ → Bool
 is-empty bs = eqb (length bs) 0
@@ -55,7 +58,7 @@ bytes line = cond (eqb (getD (trimmed line) 0 0) 0x27) (Ok (drop 1 (trimmed line
 
 -- 104 where it is left out
 abbrev pub place : List ℕ → Result (ℕ × List ℕ) Fault
-place line = cond (is-empty (word line)) (Ok (104, left line)) (argument size fault.Size line)
+place line = cond (is-empty (word line)) (Ok (104, left line)) (argument (size 65536) fault.Size line)
 
 -- a request that ends its line
 abbrev pub ended : Request → List ℕ → Result Request Fault
@@ -75,6 +78,30 @@ packet-write line =
     place rest then λ n rest.
     ended (write k l field n) rest
 
+abbrev pub packet-call : List ℕ → Result Request Fault
+packet-call line =
+    due line then λ call rest.
+    cond (sameBytes call (codes "read")) (packet-read rest)
+    (cond (sameBytes call (codes "write")) (packet-write rest)
+    (Err fault.UnknownCommand))
+
+abbrev pub medium-make : Name → List ℕ → Result Request Fault
+medium-make n line = argument spec fault.Spec line then λ s rest. ended (medium n (make s)) rest
+
+abbrev pub medium-offer : Name → List ℕ → Result Request Fault
+medium-offer n line = bytes line then λ burst rest. ended (medium n (offer burst)) rest
+
+abbrev pub medium-call : List ℕ → Result Request Fault
+medium-call line =
+    argument name fault.Name line then λ n rest.
+    due rest then λ call rest.
+    cond (sameBytes call (codes "make")) (medium-make n rest)
+    (cond (sameBytes call (codes "offer")) (medium-offer n rest)
+    (cond (sameBytes call (codes "take")) (ended (medium n take) rest)
+    (cond (sameBytes call (codes "count")) (ended (medium n count) rest)
+    (cond (sameBytes call (codes "holds")) (ended (medium n holds) rest)
+    (Err fault.UnknownCommand)))))
+
 -- a line of spaces alone, or a comment
 abbrev pub is-blank : List ℕ → Bool
 is-blank line = is-empty (trimmed line) || eqb (getD line 0 0) 0x23
@@ -83,8 +110,6 @@ abbrev pub command-of : List ℕ → Result Request Fault
 command-of line =
     cond (is-blank line) (Ok nothing)
     (due line then λ first rest.
-    cond (not (sameBytes first (codes "packet"))) (Err fault.UnknownCommand)
-    (due rest then λ second rest.
-    cond (sameBytes second (codes "read")) (packet-read rest)
-    (cond (sameBytes second (codes "write")) (packet-write rest)
-    (Err fault.UnknownCommand))))
+    cond (sameBytes first (codes "packet")) (packet-call rest)
+    (cond (sameBytes first (codes "medium")) (medium-call rest)
+    (Err fault.UnknownCommand)))

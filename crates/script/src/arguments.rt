@@ -5,12 +5,16 @@ ghost use Rattle.std.specs.shelf.Text.{sameBytes};
 ghost use Rattle.notation.specs.Hex.{unhex};
 ghost use Rattle.notation.specs.Words.{word, left};
 ghost use Rattle.script.specs.Commands.{due, argument, kind, letter, bytes, place, ended};
+ghost use Rattle.script.specs.Media.{name, spec};
 ghost use Rattle.script.specs.Told.{told, bytes-of, request, asked};
 ghost use Rattle.script.specs.declared.fault.Fault.the-variants as fault;
 use crate::command::Bytes;
 use crate::command::Command;
 use crate::command::Kind;
 use crate::fault::Fault;
+use crate::media::Name;
+use crate::media::Spec;
+use crate::media::spec_of;
 use notation::hex::are_pairs;
 use notation::hex::byte;
 use notation::number::size;
@@ -19,6 +23,9 @@ use notation::words::trimmed;
 
 // The size of a place where a line leaves it out.
 const PLACE: usize = 104;
+
+// The largest size of a place.
+const LARGEST: u32 = 65536;
 
 // What is left to read of a line.
 #[derive(Clone, Copy)]
@@ -103,6 +110,28 @@ impl<'a> Arguments<'a> {
         in_hex(word).ok_or(Fault::Bytes)
     }
 
+    // The name of a medium.
+    pub fn name(&mut self) -> Result<Name, Fault>
+        ensures { λ r. ⌜ told (λ n. n) r (now (now (self .exit) .rest)) ≡ argument name fault.Name (now (now (self .entry) .rest)) ⌝ }
+    {
+        let word = self.due()?;
+        if is(word, "m") {
+            Ok(Name::M)
+        } else if is(word, "n") {
+            Ok(Name::N)
+        } else {
+            Err(Fault::Name)
+        }
+    }
+
+    // What a medium is made of.
+    pub fn spec(&mut self) -> Result<Spec, Fault>
+        ensures { λ r. ⌜ told (λ s. s) r (now (now (self .exit) .rest)) ≡ argument spec fault.Spec (now (now (self .entry) .rest)) ⌝ }
+    {
+        let word = self.due()?;
+        spec_of(word).ok_or(Fault::Spec)
+    }
+
     // The size of a place.
     pub fn place(&mut self) -> Result<usize, Fault>
         ensures { λ r. ⌜ told (λ n. n) r (now (now (self .exit) .rest)) ≡ place (now (now (self .entry) .rest)) ⌝ }
@@ -111,7 +140,7 @@ impl<'a> Arguments<'a> {
         if word.is_empty() {
             return Ok(PLACE);
         }
-        size(word).ok_or(Fault::Size)
+        size(word, LARGEST).ok_or(Fault::Size)
     }
 
     // The command, unless a word is left over.

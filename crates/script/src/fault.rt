@@ -10,6 +10,9 @@ pub enum Fault {
     Letter,
     Bytes,
     Size,
+    Name,
+    Spec,
+    Unmade,
     TooManyWords,
 }
 
@@ -24,6 +27,10 @@ impl Fault {
             Fault::Letter => "LETTER is one byte in hexadecimal",
             Fault::Bytes => "BYTES are pairs of hexadecimal digits",
             Fault::Size => "SIZE is a number from 0 to 65536",
+            Fault::Name => "NAME is m or n",
+            Fault::Spec =>
+                "SPEC is queue:PLACES, packed:BYTES or noisy:PLACES:PATTERN, or one of these after lossy:PATTERN/",
+            Fault::Unmade => "no medium of that name is made",
             Fault::TooManyWords => "too many words",
         }
     }

@@ -2,3 +2,4 @@
 mod arguments;
 pub mod command;
 pub mod fault;
+pub mod media;

@@ -11,17 +11,17 @@ use Rattle.notation.proofs.Sizes.{number-more, no-digit, no-word, too-large, i
 use Rattle.notation.proofs.number.size.Needs as need
 
 pub returns-then-not-is-ascii-digit : need.returns-then-not-is-ascii-digit
-returns-then-not-is-ascii-digit c = no-digit (c .args .word .now) (every-stops asciiDigit (c .args .word .now) (c .loop-c .c-index) (c .loop-c-test .taken) (sym (c .if-not-is-ascii-digit .ensures tt .value)) (c .loop-c .inv .1))
+returns-then-not-is-ascii-digit c = no-digit (c .args .largest) (c .args .word .now) (every-stops asciiDigit (c .args .word .now) (c .loop-c .c-index) (c .loop-c-test .taken) (sym (c .if-not-is-ascii-digit .ensures tt .value)) (c .loop-c .inv .1))
 
 pub loop-c-again : need.loop-c-again
 loop-c-again c =
-    let more = number-more (c .args .word .now) (c .loop-c .c-index) (c .loop-c .n) (c .loop-c-test .taken) (c .loop-c .inv .0) in
+    let more = number-more (c .args .largest) (c .args .word .now) (c .loop-c .c-index) (c .loop-c .n) (c .loop-c-test .taken) (c .loop-c .inv .0) in
     (rw (c .min-n .ensures, c .from .ensures) more, every-more asciiDigit (c .args .word .now) (c .loop-c .c-index) (c .loop-c-test .taken) (sym (c .if-not-is-ascii-digit .ensures tt .value)) (c .loop-c .inv .1))
 
 pub returns-then-is-empty : need.returns-then-is-empty
 returns-then-is-empty c =
     let all = ap number (take-all (c .loop-c .c-index) (c .args .word .now) (c .loop-c-test .left)) in
-    ⊎-elim (λ t. no-word (c .args .word .now) (sym (c .is-empty .ensures) ∙ t)) (λ t. too-large (c .args .word .now) (omega arith)) (c .then-is-empty .either)
+    ⊎-elim (λ t. no-word (c .args .largest) (c .args .word .now) (sym (c .is-empty .ensures) ∙ t)) (λ t. too-large (c .args .largest) (c .args .word .now) (omega arith)) (c .then-is-empty .either)
 
 pub returns : need.returns
 returns c =
@@ -29,4 +29,4 @@ returns c =
     let digits = every-all asciiDigit (c .args .word .now) (c .loop-c .c-index) (c .loop-c-test .left) (c .loop-c .inv .1) in
     let some = ap not (sym (c .if-is-empty .ensures tt)) in
     let value : c .loop-c .n ≡ number (c .args .word .now) = omega arith in
-    ap (λ n. Some n) value ∙ is-size (c .args .word .now) digits some (omega arith)
+    ap (λ n. Some n) value ∙ is-size (c .args .largest) (c .args .word .now) digits some (omega arith)

@@ -20,3 +20,12 @@ returns-in-Size c = rw (c .in-Size .is)
 
 pub returns-in-TooManyWords : need.returns-in-TooManyWords
 returns-in-TooManyWords c = rw (c .in-TooManyWords .is)
+
+pub returns-in-Name : need.returns-in-Name
+returns-in-Name c = rw (c .in-Name .is)
+
+pub returns-in-Spec : need.returns-in-Spec
+returns-in-Spec c = rw (c .in-Spec .is)
+
+pub returns-in-Unmade : need.returns-in-Unmade
+returns-in-Unmade c = rw (c .in-Unmade .is)

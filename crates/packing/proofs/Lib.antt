@@ -1,0 +1,3 @@
+pub mod Rowed
+pub mod Walks
+pub mod Fitting

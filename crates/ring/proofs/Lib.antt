@@ -1,0 +1,2 @@
+pub mod Around
+pub mod Spans
