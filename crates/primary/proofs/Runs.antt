@@ -92,13 +92,13 @@ module _ {X : Type 0} (F : SendBuffer → X) (bs : List SendBuffer) (h : ℕ) (a
       let s : suc (d - 1) ≡ d = omega arith in
       turn (d - 1) (u - 1 - (d - 1)) ∙ ap (λ (j : ℕ). run (seen bs) j (u - 1 - (d - 1))) s ∙ ap (run (seen bs) d) n
 
-  pub collect-takes : (d : ℕ) (x : X) → 0 < d → x ≡ F (getD bs h blank) → run (seen bs) 0 d ≡ x ∷ run turned 0 (d - 1)
-  collect-takes d x pos is =
+  pub collect-takes : (d : ℕ) → 0 < d → run (seen bs) 0 d ≡ F (getD bs h blank) ∷ run turned 0 (d - 1)
+  collect-takes d pos =
       let s : d ≡ suc (d - 1) = omega arith in
       let z : (h + 0) % 8 ≡ h = omega arith in
       ap (run (seen bs) 0) s
       ∙ ap (λ (ys : List X). seen bs 0 ∷ ys) (sym (turn 0 (d - 1)))
-      ∙ ap (λ (y : X). y ∷ run turned 0 (d - 1)) (ap (λ (j : ℕ). F (getD bs j blank)) z ∙ sym is)
+      ∙ ap (λ (j : ℕ). F (getD bs j blank) ∷ run turned 0 (d - 1)) z
 
 pub filled : (w rest m : List ℕ) → w ≡ m → take (length m) (w ++ rest) ≡ m
 filled w rest m e = take-at w rest (length m) (ap length e) ∙ e

@@ -2,3 +2,4 @@
 pub mod buffers;
 pub mod event;
 pub mod outcome;
+pub mod station;

@@ -4,10 +4,12 @@ ghost use mathlib.Core.List.{List, [], _∷_, _++_};
 ghost use Prim.Native.Nat.{ℕ, _+_, _-_, _<_, _≤_};
 ghost use lib.ListN.{length, drop, replicate};
 ghost use Rattle.std.specs.Options.{mapped};
+ghost use Rattle.std.specs.Slices.{found};
+ghost use Rattle.std.specs.Vec.{made};
 ghost use Rattle.packet.specs.Refusals.{answer, judged};
-ghost use Rattle.primary.specs.Buffers.{message-in, unsettled, uncollected, first, Accepted, Unless-refused};
+ghost use Rattle.primary.specs.Buffers.{message-in, unsettled, uncollected, first, Accepted};
 ghost use Rattle.primary.specs.declared.outcome.Outcome.the-variants.{NoConnection};
-ghost use Rattle.primary.specs.Rules.{message-rules, room-rules, oldest};
+ghost use Rattle.primary.specs.Rules.{message-rules, room-rules};
 use crate::buffers::SendBuffer;
 use crate::buffers::SendBuffers;
 use crate::outcome::Outcome;
@@ -59,7 +61,8 @@ impl SendBuffers {
 
     // How many messages are without outcome.
     pub fn unsettled(&self) -> usize
-        ensures { λ r. ⌜ r ≡ length (unsettled (now (self .entry))) ⌝ }
+        ensures value { λ r. ⌜ r ≡ length (unsettled (now (self .entry))) ⌝ }
+        ensures count { λ r. ⌜ r ≡ now (self .entry) .used - now (self .entry) .done ⌝ }
     {
         self.used - self.done
     }
@@ -71,10 +74,10 @@ impl SendBuffers {
         self.done
     }
 
-    // Takes a message into a free buffer, or refuses it with 16, 17 or 19.
-    pub fn accept(&mut self, message: &[u8]) -> Result<(), Refusal>
+    // Refuses a message that no DATA can carry or that no buffer is free for, with 16, 17 or 19.
+    pub fn admit(&self, message: &[u8]) -> Result<(), Refusal>
         ensures value { λ r. ⌜ answer (λ u. u) r ≡ judged (message-rules (now (message .entry)) ++ room-rules (length (unsettled (now (self .entry))) + length (uncollected (now (self .entry))))) tt ⌝ }
-        ensures after { λ r. ⌜ Unless-refused r (now (self .entry)) (now (self .exit)) (Accepted (now (message .entry)) (now (self .entry)) (now (self .exit))) ⌝ }
+        ensures fits { λ r. ⌜ made r (λ _. (length (now (message .entry)) ≤ 96) × (now (self .entry) .used < 8)) ⌝ }
     {
         if let Err(refusal) = check_message(message) {
             return Err(refusal);
@@ -82,11 +85,11 @@ impl SendBuffers {
         if self.used == CAPACITY {
             return Err(Refusal::SendBuffersFull);
         }
-        self.put(message);
         Ok(())
     }
 
-    fn put(&mut self, message: &[u8])
+    // Takes a message into a free buffer.
+    pub fn put(&mut self, message: &[u8])
         requires { ⌜ length (now message) ≤ 96 ⌝ ∗ ⌜ now self .used < 8 ⌝ }
         ensures { λ _. ⌜ Accepted (now (message .entry)) (now (self .entry)) (now (self .exit)) ⌝ }
     {
@@ -131,21 +134,26 @@ impl SendBuffers {
         }
     }
 
-    // Tells the oldest outcome and frees its buffer, or refuses with 20.
-    pub fn collect(&mut self) -> Result<Outcome, Refusal>
-        ensures value { λ r. ⌜ answer (λ o. o) r ≡ oldest (uncollected (now (self .entry))) ⌝ }
-        ensures waits { λ r. ⌜ unsettled (now (self .exit)) ≡ unsettled (now (self .entry)) ⌝ }
-        ensures told { λ r. ⌜ uncollected (now (self .exit)) ≡ drop 1 (uncollected (now (self .entry))) ⌝ }
-        ensures count { λ r. ⌜ now (self .exit) .used - now (self .exit) .done ≡ now (self .entry) .used - now (self .entry) .done ⌝ }
-        ensures refused { λ r. ⌜ Unless-refused r (now (self .entry)) (now (self .exit)) (Unit {0}) ⌝ }
+    // The oldest outcome not collected.
+    pub fn oldest_outcome(&self) -> Option<Outcome>
+        ensures value { λ r. ⌜ r ≡ first (uncollected (now (self .entry))) ⌝ }
+        ensures some { λ r. ⌜ found r (λ _. 0 < now (self .entry) .done) ⌝ }
     {
         if self.done == 0 {
-            return Err(Refusal::NoOutcome);
+            return None;
         }
-        let outcome = self.buffers[self.head].outcome;
+        Some(self.buffers[self.head].outcome)
+    }
+
+    // Frees the buffer of the oldest outcome.
+    pub fn free_oldest(&mut self)
+        requires { ⌜ 0 < now self .done ⌝ }
+        ensures waits { λ _. ⌜ unsettled (now (self .exit)) ≡ unsettled (now (self .entry)) ⌝ }
+        ensures told { λ _. ⌜ uncollected (now (self .exit)) ≡ drop 1 (uncollected (now (self .entry))) ⌝ }
+        ensures count { λ _. ⌜ now (self .exit) .done + 1 ≡ now (self .entry) .done ⌝ ∗ ⌜ now (self .exit) .used + 1 ≡ now (self .entry) .used ⌝ }
+    {
         self.head = (self.head + 1) % CAPACITY;
         self.done -= 1;
         self.used -= 1;
-        Ok(outcome)
     }
 }
