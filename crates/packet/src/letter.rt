@@ -82,7 +82,7 @@ impl Letter {
 }
 
 // Whether each byte lies from `low` to `high`. No early exit, so that the loop vectorises.
-fn all_between(low: u8, high: u8, bytes: &[u8]) -> bool
+pub fn all_between(low: u8, high: u8, bytes: &[u8]) -> bool
     ensures { λ r. ⌜ r ≡ each-between low high (now (bytes .entry)) ⌝ }
 {
     let mut bad = false;

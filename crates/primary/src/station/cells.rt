@@ -1,0 +1,199 @@
+// The actions of the table's cells, and the step that chooses among them.
+ghost use mathlib.Core.Path.{_≡_};
+ghost use mathlib.Core.Bool.{true};
+ghost use mathlib.Core.List.{[]};
+ghost use Prim.Native.Nat.{_<_};
+ghost use lib.ListN.{getD, drop};
+ghost use Rattle.std.specs.Results.{isErr};
+ghost use Rattle.packet.specs.Refusals.{answer};
+ghost use Rattle.primary.specs.declared.station.State.the-variants.{Off, Ready, Waiting};
+ghost use Rattle.primary.specs.Buffers.{unsettled, Unless-refused};
+ghost use Rattle.primary.specs.Model.{model, did, heard};
+ghost use Rattle.primary.specs.Rules.{oldest};
+ghost use Rattle.primary.specs.Station.{submission};
+ghost use Rattle.primary.specs.Table.{asks, sends-again, sends-next, arrives, gives-up, expires, step-of, collected};
+use crate::buffers::ring::check_message;
+use crate::event::Event;
+use crate::event::NumberPartialEq;
+use crate::event::Step;
+use crate::outcome::Outcome;
+use crate::station::Primary;
+use crate::station::State;
+use packet::refusal::Refusal;
+
+impl Primary {
+    fn ask(&mut self) -> Step
+        ensures { λ r. ⌜ did (now (self .exit)) r ≡ asks (model (now (self .entry)) .phase) (model (now (self .entry))) ⌝ }
+    {
+        self.attempts = self.attempts.saturating_add(1);
+        Step::enq()
+    }
+
+    // The oldest message without outcome is sent under the other number.
+    fn send_next(&mut self) -> Step
+        requires { ⌜ now self .state ≡ Waiting ⌝ }
+        ensures { λ r. ⌜ did (now (self .exit)) r ≡ sends-next (getD (unsettled (now (self .entry) .buffers)) 0 []) (drop 1 (unsettled (now (self .entry) .buffers))) 0 (model (now (self .entry))) ⌝ }
+    {
+        self.number = self.number.other();
+        self.attempts = 0;
+        Step::data(self.number)
+    }
+
+    // The current message is sent again, under its number.
+    fn send_again(&mut self) -> Step
+        requires { ⌜ now self .buffers .done < now self .buffers .used ⌝ }
+        ensures { λ r. ⌜ did (now (self .exit)) r ≡ sends-again (getD (unsettled (now (self .entry) .buffers)) 0 []) (drop 1 (unsettled (now (self .entry) .buffers))) (model (now (self .entry))) ⌝ }
+    {
+        self.state = State::Waiting;
+        self.attempts = self.attempts.saturating_add(1);
+        Step::data(self.number)
+    }
+
+    // The current message has arrived.
+    fn arrived(&mut self) -> Step
+        requires { ⌜ now self .buffers .done < now self .buffers .used ⌝ }
+        ensures { λ r. ⌜ did (now (self .exit)) r ≡ arrives (drop 1 (unsettled (now (self .entry) .buffers))) (model (now (self .entry))) ⌝ }
+    {
+        self.buffers.settle(Outcome::Arrived);
+        if self.buffers.unsettled() == 0 {
+            self.state = State::Ready;
+            self.attempts = 0;
+            return Step {
+                arrived: 1,
+                ..Step::nothing()
+            };
+        }
+        self.state = State::Waiting;
+        Step {
+            arrived: 1,
+            ..self.send_next()
+        }
+    }
+
+    // No answer came.
+    fn expired(&mut self, limit: u8) -> Step
+        requires { ⌜ now self .buffers .done < now self .buffers .used ⌝ }
+        ensures { λ r. ⌜ did (now (self .exit)) r ≡ expires limit (getD (unsettled (now (self .entry) .buffers)) 0 []) (drop 1 (unsettled (now (self .entry) .buffers))) (model (now (self .entry))) ⌝ }
+    {
+        if self.attempts < limit {
+            self.state = State::Asking;
+            return self.ask();
+        }
+        self.give_up()
+    }
+
+    // The current message is given up, and no connection is left for those that wait.
+    fn give_up(&mut self) -> Step
+        requires { ⌜ now self .buffers .done < now self .buffers .used ⌝ }
+        ensures { λ r. ⌜ did (now (self .exit)) r ≡ gives-up (drop 1 (unsettled (now (self .entry) .buffers))) (model (now (self .entry))) ⌝ }
+    {
+        self.state = State::Off;
+        self.attempts = 1;
+        self.buffers.settle(Outcome::GivenUp);
+        let waiting = self.buffers.unsettled() as u8;
+        self.buffers.settle_rest();
+        Step {
+            given_up: 1,
+            no_connection: waiting,
+            ..Step::enq()
+        }
+    }
+
+    // A message for a station that is off: it is refused, for what it is or else with 18.
+    fn submit_off(&self, message: &[u8]) -> Result<Step, Refusal>
+        requires { ⌜ now self .state ≡ Off ⌝ }
+        ensures { λ r. ⌜ answer (did (now (self .entry))) r ≡ step-of 0 (model (now (self .entry))) (submission (now (message .entry))) ⌝ ∗ ⌜ isErr r ≡ true ⌝ }
+    {
+        if let Err(refusal) = check_message(message) {
+            return Err(refusal);
+        }
+        Err(Refusal::NotConnected)
+    }
+
+    // A message for a station that is ready: it is sent at once.
+    fn submit_ready(&mut self, message: &[u8]) -> Result<Step, Refusal>
+        requires { ⌜ now self .state ≡ Ready ⌝ }
+        ensures value { λ r. ⌜ answer (did (now (self .exit))) r ≡ step-of 0 (model (now (self .entry))) (submission (now (message .entry))) ⌝ }
+        ensures refused { λ r. ⌜ Unless-refused r (now (self .entry)) (now (self .exit)) (Unit {0}) ⌝ }
+    {
+        if let Err(refusal) = self.buffers.admit(message) {
+            return Err(refusal);
+        }
+        self.buffers.put(message);
+        self.state = State::Waiting;
+        Ok(self.send_next())
+    }
+
+    // A message while another is under way: it waits.
+    fn submit_busy(&mut self, message: &[u8]) -> Result<Step, Refusal>
+        requires { ⌜ now self .buffers .done < now self .buffers .used ⌝ }
+        ensures value { λ r. ⌜ answer (did (now (self .exit))) r ≡ step-of 0 (model (now (self .entry))) (submission (now (message .entry))) ⌝ }
+        ensures refused { λ r. ⌜ Unless-refused r (now (self .entry)) (now (self .exit)) (Unit {0}) ⌝ }
+    {
+        if let Err(refusal) = self.buffers.admit(message) {
+            return Err(refusal);
+        }
+        self.buffers.put(message);
+        Ok(Step::nothing())
+    }
+
+    // What the station does at an event, with attempt limit `limit`.
+    pub fn step(&mut self, event: Event<'_>, limit: u8) -> Result<Step, Refusal>
+        ensures value { λ r. ⌜ answer (did (now (self .exit))) r ≡ step-of limit (model (now (self .entry))) (heard (event .entry)) ⌝ }
+        ensures refused { λ r. ⌜ Unless-refused r (now (self .entry)) (now (self .exit)) (Unit {0}) ⌝ }
+    {
+        match (self.state, event) {
+            (State::Off, Event::Submission(message)) => self.submit_off(message),
+            (State::Off, Event::Reset) => {
+                self.state = State::Ready;
+                Ok(Step::nothing())
+            }
+            (State::Off, Event::Ack(number, credit)) => {
+                self.credit = credit;
+                self.number = number;
+                self.state = State::Ready;
+                Ok(Step::nothing())
+            }
+            (State::Off, Event::Timeout) => Ok(self.ask()),
+            (State::Ready, Event::Submission(message)) => self.submit_ready(message),
+            (State::Ready, Event::Ack(_, credit)) => {
+                self.credit = credit;
+                Ok(Step::nothing())
+            }
+            (State::Ready, Event::Reset | Event::Timeout) => Ok(Step::nothing()),
+            (State::Waiting | State::Asking, Event::Submission(message)) => self.submit_busy(message),
+            (State::Waiting, Event::Reset) => Ok(Step::nothing()),
+            (State::Waiting, Event::Ack(number, credit)) => {
+                self.credit = credit;
+                if number == self.number {
+                    Ok(self.arrived())
+                } else {
+                    Ok(Step::nothing())
+                }
+            }
+            (State::Asking, Event::Reset) => Ok(self.send_again()),
+            (State::Asking, Event::Ack(number, credit)) => {
+                self.credit = credit;
+                if number == self.number {
+                    Ok(self.arrived())
+                } else {
+                    Ok(self.send_again())
+                }
+            }
+            (State::Waiting | State::Asking, Event::Timeout) => Ok(self.expired(limit)),
+        }
+    }
+
+    // Tells the oldest uncollected outcome and frees its buffer, or refuses with 20.
+    pub fn collect(&mut self) -> Result<Outcome, Refusal>
+        ensures value { λ r. ⌜ answer (λ o. o) r ≡ oldest (model (now (self .entry)) .outcomes) ⌝ }
+        ensures after { λ r. ⌜ model (now (self .exit)) ≡ collected (model (now (self .entry))) ⌝ }
+        ensures refused { λ r. ⌜ Unless-refused r (now (self .entry)) (now (self .exit)) (Unit {0}) ⌝ }
+    {
+        let Some(outcome) = self.buffers.oldest_outcome() else {
+            return Err(Refusal::NoOutcome);
+        };
+        self.buffers.free_oldest();
+        Ok(outcome)
+    }
+}
