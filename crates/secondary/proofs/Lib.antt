@@ -1,0 +1,3 @@
+pub mod Outs
+pub mod Rings
+pub mod Turns

@@ -1,0 +1,4 @@
+pub mod Buffers
+pub mod Held
+pub mod Laws
+pub mod Station
