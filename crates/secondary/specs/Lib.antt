@@ -2,3 +2,4 @@ pub mod Buffers
 pub mod Held
 pub mod Laws
 pub mod Station
+pub mod Worked

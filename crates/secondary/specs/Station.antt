@@ -126,3 +126,10 @@ given (Err e) = refused (number-of (e .0))
 abbrev pub handed-back : Result (Unit {0}) (Refusal × DeliverySlip) → List DeliverySlip
 handed-back (Ok x) = []
 handed-back (Err e) = e .1 ∷ []
+
+-- a read-out: take, and then give back
+abbrev pub reading-answer : ℕ → Station → Answer ℕ
+reading-answer size s = judged (take-rules size s) (length (oldest-of (s .held)))
+
+abbrev pub after-reading : ℕ → Station → Station
+after-reading size s = or-kept (judged (take-rules size s) (freed s)) s

@@ -3,6 +3,7 @@ ghost use mathlib.Core.Path.{_≡_};
 ghost use lib.ListN.{length};
 ghost use Rattle.std.specs.Vec.{refused as where-refused};
 ghost use Rattle.packet.specs.Refusals.{answer};
+ghost use Rattle.secondary.specs.Laws.{Leave-in-order};
 ghost use Rattle.secondary.specs.Station.{model, opened, free-buffers, enq-answer, data-answer, after-data, buffer-out};
 use super::Secondary;
 use crate::deliveries::Deliveries;
@@ -14,7 +15,8 @@ use packet::refusal::Refusal;
 impl Secondary {
     // A station that holds nothing, on the line of this number.
     pub fn new(line: u8) -> Secondary
-        ensures { λ r. ⌜ model r ≡ opened line ⌝ }
+        ensures value { λ r. ⌜ model r ≡ opened line ⌝ }
+        ensures in_order { λ r. ⌜ Leave-in-order (model r) ⌝ }
     {
         Secondary {
             line,
