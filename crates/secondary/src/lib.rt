@@ -1,0 +1,7 @@
+// The secondary station of one end of a line, and the slips of its deliveries.
+pub mod deliveries;
+pub mod number;
+pub mod reading;
+pub mod reply;
+pub mod station;
+pub mod worked;

@@ -1,0 +1,6 @@
+// The sequence number of a message.
+#[derive(Clone, Copy)]
+pub enum Number {
+    Zero,
+    One,
+}

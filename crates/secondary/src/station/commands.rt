@@ -1,0 +1,95 @@
+// The opening, the two commands, and what the station is asked.
+ghost use mathlib.Core.Path.{_≡_};
+ghost use lib.ListN.{length};
+ghost use Rattle.std.specs.Vec.{refused as where-refused};
+ghost use Rattle.packet.specs.Refusals.{answer};
+ghost use Rattle.secondary.specs.Laws.{Leave-in-order};
+ghost use Rattle.secondary.specs.Station.{model, opened, free-buffers, enq-answer, data-answer, after-data, buffer-out};
+use super::Secondary;
+use crate::deliveries::Deliveries;
+use crate::number::Number;
+use crate::reply::Reply;
+use crate::reply::Response;
+use packet::refusal::Refusal;
+
+impl Secondary {
+    // A station that holds nothing, on the line of this number.
+    pub fn new(line: u8) -> Secondary
+        ensures value { λ r. ⌜ model r ≡ opened line ⌝ }
+        ensures in_order { λ r. ⌜ Leave-in-order (model r) ⌝ }
+    {
+        Secondary {
+            line,
+            last: Reply::Reset,
+            deliveries: Deliveries::new(),
+            out: false,
+        }
+    }
+
+    pub fn last_answer(&self) -> Reply
+        ensures { λ r. ⌜ r ≡ model (now (self .entry)) .last ⌝ }
+    {
+        self.last
+    }
+
+    // How many deliveries are held, the one that is out counted.
+    pub fn held(&self) -> u8
+        ensures { λ r. ⌜ r ≡ length (model (now (self .entry)) .held) ⌝ }
+    {
+        self.deliveries.held()
+    }
+
+    // The number of the buffer that is out.
+    pub fn buffer_out(&self) -> Option<u8>
+        ensures { λ r. ⌜ r ≡ buffer-out (model (now (self .entry))) ⌝ }
+    {
+        if self.out {
+            Some(self.deliveries.oldest())
+        } else {
+            None
+        }
+    }
+
+    fn free_buffers(&self, receive_limit: u8) -> u8
+        ensures { λ r. ⌜ r ≡ free-buffers «receive_limit» (model (now (self .entry))) ⌝ }
+    {
+        receive_limit.min(8).saturating_sub(self.held())
+    }
+
+    // ENQ: the last answer again, with the credit of now; no answer while no buffer is free.
+    pub fn enq(&self, receive_limit: u8) -> Response
+        ensures { λ r. ⌜ r ≡ enq-answer «receive_limit» (model (now (self .entry))) ⌝ }
+    {
+        let free = self.free_buffers(receive_limit);
+        if free == 0 {
+            return Response::Nothing;
+        }
+        match self.last {
+            Reply::Reset => Response::Reset,
+            Reply::Ack(number) => Response::Ack(number, free),
+        }
+    }
+
+    // DATA: stores the message and acknowledges it; ignored while no buffer is free.
+    pub fn data(
+        &mut self,
+        number: Number,
+        message: &[u8],
+        receive_limit: u8,
+    ) -> Result<Response, Refusal>
+        ensures value { λ r. ⌜ answer (λ x. x) r ≡ data-answer «receive_limit» number (now (message .entry)) (model (now (self .entry))) ⌝ }
+        ensures after { λ _. ⌜ model (now (self .exit)) ≡ after-data «receive_limit» number (now (message .entry)) (model (now (self .entry))) ⌝ }
+        ensures unchanged { λ r. ⌜ where-refused r (λ _. now (self .exit) ≡ now (self .entry)) ⌝ }
+    {
+        if message.len() < 1 || 96 < message.len() {
+            return Err(Refusal::MessageLength);
+        }
+        let free = self.free_buffers(receive_limit);
+        if free == 0 {
+            return Ok(Response::Nothing);
+        }
+        self.deliveries.store(message);
+        self.last = Reply::Ack(number);
+        Ok(Response::Ack(number, free - 1))
+    }
+}
