@@ -1,16 +1,9 @@
--- Numbers and steps as data. Assumes nothing.
-use mathlib.Core.Bool.{Bool, true, false}
+-- Steps as data. Assumes nothing.
 use Rattle.std.specs.declared.option.Option.the-variants.{None, Some}
-use Rattle.primary.specs.declared.event.Number.{Number}
-use Rattle.primary.specs.declared.event.Number.the-variants.{Zero, One}
+use Rattle.packet.specs.declared.number.Number.{Number}
 use Rattle.primary.specs.declared.event.Sent.the-variants as sends
 use Rattle.primary.specs.declared.event.Timer.the-variants as timers
 use Rattle.primary.specs.declared.event.Step.{Step}
-
--- a number of DATA and ACK as a truth value: 0 is false, 1 is true
-abbrev pub is-one : Number → Bool
-is-one Zero = false
-is-one One = true
 
 abbrev pub still : Step
 still = record { sent = sends.Nothing; timer = None; arrived = 0; «given_up» = 0; «no_connection» = 0 }

@@ -14,7 +14,7 @@ use Rattle.primary.specs.declared.station.State.{State}
 use Rattle.primary.specs.declared.station.State.the-variants.{Off, Ready, Waiting, Asking}
 use Rattle.primary.specs.declared.station.Primary.{Primary}
 use Rattle.primary.specs.Buffers.{unsettled, uncollected}
-use Rattle.primary.specs.Events.{is-one}
+use Rattle.packet.specs.Numbers.{is-one}
 use Rattle.primary.specs.Station.{Message, Phase, off, ready, waiting, asking, Station, Heard, submission, reset, ack, timeout, Command, ENQ, DATA, Did, current-in}
 
 -- the first of the messages without outcome is current

@@ -1,25 +1,7 @@
 // What a primary station hears and what it then does.
 ghost use mathlib.Core.Path.{_≡_};
-ghost use mathlib.Core.Bool.{not};
-ghost use Rattle.primary.specs.Events.{is-one, still, asks-again, carries};
-
-// The number that DATA bears and its ACK repeats.
-#[derive(Clone, Copy, PartialEq, Eq)]
-pub enum Number {
-    Zero,
-    One,
-}
-
-impl Number {
-    pub fn other(self) -> Number
-        ensures { λ r. ⌜ is-one r ≡ not (is-one self) ⌝ }
-    {
-        match self {
-            Number::Zero => Number::One,
-            Number::One => Number::Zero,
-        }
-    }
-}
+ghost use Rattle.primary.specs.Events.{still, asks-again, carries};
+use packet::number::Number;
 
 // A message to send, an answer heard (ACK with its number and credit), or no answer in time.
 #[derive(Clone, Copy)]

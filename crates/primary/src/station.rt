@@ -2,7 +2,7 @@
 ghost use Prim.Native.Nat.{_+_, _*_, _≤_};
 ghost use Rattle.primary.specs.Busy.{under-way};
 use crate::buffers::SendBuffers;
-use crate::event::Number;
+use packet::number::Number;
 
 pub mod cells;
 pub mod questions;

@@ -9,7 +9,7 @@ use lib.ListN.{length, drop}
 use Rattle.std.proofs.shelf.Lists.{append-assoc, append-nil}
 use Rattle.packet.specs.Letters.{between}
 use Rattle.packet.specs.Refusals.{Answer, refused, gave, _⇒_, judged}
-use Rattle.secondary.specs.declared.number.Number.{Number}
+use Rattle.packet.specs.declared.number.Number.{Number}
 use Rattle.secondary.specs.declared.reply.Reply.{Reply}
 use Rattle.secondary.specs.declared.reply.Response.the-variants as response
 use Rattle.secondary.specs.Buffers.{oldest-of}

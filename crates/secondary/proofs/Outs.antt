@@ -9,7 +9,7 @@ use lib.ListN.{length, length-append}
 use Rattle.std.proofs.shelf.Ways.{tells}
 use Rattle.packet.specs.Letters.{between}
 use Rattle.packet.specs.Refusals.{Answer, refused, gave, _⇒_, judged}
-use Rattle.secondary.specs.declared.number.Number.{Number}
+use Rattle.packet.specs.declared.number.Number.{Number}
 use Rattle.secondary.specs.Laws.{Call, Enq, Data, Take, Give, after, after-all, Spares, Stays-out}
 use Rattle.secondary.specs.Station.{Message, Station, or-kept, free-buffers, oldest-buffer, stored, take-answer, lent, slip-out, freed, give-answer}
 

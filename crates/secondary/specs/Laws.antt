@@ -3,7 +3,7 @@ use mathlib.Core.Path.{_≡_}
 use mathlib.Core.List.{List, [], _∷_, _++_}
 use Prim.Native.Nat.{ℕ, _≤_}
 use Rattle.packet.specs.Refusals.{Answer, refused, gave, judged}
-use Rattle.secondary.specs.declared.number.Number.{Number}
+use Rattle.packet.specs.declared.number.Number.{Number}
 use Rattle.secondary.specs.declared.reply.Response.{Response}
 use Rattle.secondary.specs.declared.reply.Response.the-variants as response
 use Rattle.secondary.specs.Buffers.{oldest-of}

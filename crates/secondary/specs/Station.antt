@@ -11,7 +11,7 @@ use Rattle.std.specs.declared.result.Result.the-variants.{Ok, Err}
 use Rattle.packet.specs.Letters.{between}
 use Rattle.packet.specs.declared.refusal.Refusal.{Refusal}
 use Rattle.packet.specs.Refusals.{Answer, refused, gave, Rule, _⇒_, judged, number-of}
-use Rattle.secondary.specs.declared.number.Number.{Number}
+use Rattle.packet.specs.declared.number.Number.{Number}
 use Rattle.secondary.specs.declared.reply.Reply.{Reply}
 use Rattle.secondary.specs.declared.reply.Reply.the-variants as reply
 use Rattle.secondary.specs.declared.reply.Response.{Response}

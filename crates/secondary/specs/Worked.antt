@@ -4,7 +4,7 @@ use mathlib.Core.Bool.{true, false}
 use mathlib.Core.List.{List, [], _∷_}
 use Prim.Native.Nat.{ℕ}
 use Rattle.packet.specs.Refusals.{refused, gave}
-use Rattle.secondary.specs.declared.number.Number.the-variants.{Zero, One}
+use Rattle.packet.specs.declared.number.Number.the-variants.{Zero, One}
 use Rattle.secondary.specs.declared.reply.Response.the-variants.{Nothing, Reset, Ack}
 use Rattle.secondary.specs.Laws.{Call, Data, Take, Give, after-all}
 use Rattle.secondary.specs.Station.{Message, Station, opened, enq-answer, data-answer, take-answer, give-answer}

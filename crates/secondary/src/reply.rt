@@ -1,5 +1,5 @@
 // What a secondary station answers.
-use crate::number::Number;
+use packet::number::Number;
 
 // The last answer: RESET until a message is stored, then the ACK of the last one stored.
 #[derive(Clone, Copy)]

@@ -14,11 +14,11 @@ ghost use Rattle.primary.specs.Station.{submission};
 ghost use Rattle.primary.specs.Table.{asks, sends-again, sends-next, arrives, gives-up, expires, step-of, collected};
 use crate::buffers::ring::check_message;
 use crate::event::Event;
-use crate::event::NumberPartialEq;
 use crate::event::Step;
 use crate::outcome::Outcome;
 use crate::station::Primary;
 use crate::station::State;
+use packet::number::NumberPartialEq;
 use packet::refusal::Refusal;
 
 impl Primary {
@@ -161,7 +161,9 @@ impl Primary {
                 Ok(Step::nothing())
             }
             (State::Ready, Event::Reset | Event::Timeout) => Ok(Step::nothing()),
-            (State::Waiting | State::Asking, Event::Submission(message)) => self.submit_busy(message),
+            (State::Waiting | State::Asking, Event::Submission(message)) => self.submit_busy(
+                message,
+            ),
             (State::Waiting, Event::Reset) => Ok(Step::nothing()),
             (State::Waiting, Event::Ack(number, credit)) => {
                 self.credit = credit;

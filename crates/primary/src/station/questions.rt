@@ -2,14 +2,15 @@
 ghost use mathlib.Core.Path.{_≡_};
 ghost use lib.ListN.{length};
 ghost use Rattle.std.specs.Options.{mapped};
-ghost use Rattle.primary.specs.Events.{is-one, asks-again};
+ghost use Rattle.packet.specs.Numbers.{is-one};
+ghost use Rattle.primary.specs.Events.{asks-again};
 ghost use Rattle.primary.specs.Model.{model, did, state-of};
 ghost use Rattle.primary.specs.Station.{current-in, unsettled-in};
 ghost use Rattle.primary.specs.Table.{opening};
 use crate::buffers::SendBuffers;
-use crate::event::Number;
 use crate::station::Primary;
 use crate::station::State;
+use packet::number::Number;
 
 impl Primary {
     // A new station. `Step::enq()` is what it sends then.

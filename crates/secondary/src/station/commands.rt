@@ -7,9 +7,9 @@ ghost use Rattle.secondary.specs.Laws.{Leave-in-order};
 ghost use Rattle.secondary.specs.Station.{model, opened, free-buffers, enq-answer, data-answer, after-data, buffer-out};
 use super::Secondary;
 use crate::deliveries::Deliveries;
-use crate::number::Number;
 use crate::reply::Reply;
 use crate::reply::Response;
+use packet::number::Number;
 use packet::refusal::Refusal;
 
 impl Secondary {
