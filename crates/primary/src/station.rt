@@ -18,6 +18,7 @@ pub enum State {
 }
 
 // Messages are without outcome exactly while the station waits or asks: the oldest of them is current.
+#[derive(Drop)]
 pub struct Primary {
     buffers: SendBuffers,
     state: State,

@@ -1,0 +1,4 @@
+pub mod End
+pub mod Models
+pub mod Reports
+pub mod Valid
