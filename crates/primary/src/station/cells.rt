@@ -8,6 +8,7 @@ ghost use Rattle.std.specs.Results.{isErr};
 ghost use Rattle.packet.specs.Refusals.{answer};
 ghost use Rattle.primary.specs.declared.station.State.the-variants.{Off, Ready, Waiting};
 ghost use Rattle.primary.specs.Buffers.{unsettled, Unless-refused};
+ghost use Rattle.primary.specs.Laws.{In-time};
 ghost use Rattle.primary.specs.Model.{model, did, heard};
 ghost use Rattle.primary.specs.Rules.{oldest};
 ghost use Rattle.primary.specs.Station.{submission};
@@ -137,8 +138,17 @@ impl Primary {
         Ok(Step::nothing())
     }
 
-    // What the station does at an event, with attempt limit `limit`.
+    // What the station does at an event, with the attempt limit as it is now. Only a submission can be refused, with 16 to 19.
     pub fn step(&mut self, event: Event<'_>, limit: u8) -> Result<Step, Refusal>
+        ensures value { λ r. ⌜ answer (did (now (self .exit))) r ≡ step-of limit (model (now (self .entry))) (heard (event .entry)) ⌝ }
+        ensures refused { λ r. ⌜ Unless-refused r (now (self .entry)) (now (self .exit)) (Unit {0}) ⌝ }
+        ensures in_time { λ r. ⌜ In-time (model (now (self .entry))) (answer (did (now (self .exit))) r) ⌝ }
+    {
+        self.act(event, limit)
+    }
+
+    // The action table.
+    fn act(&mut self, event: Event<'_>, limit: u8) -> Result<Step, Refusal>
         ensures value { λ r. ⌜ answer (did (now (self .exit))) r ≡ step-of limit (model (now (self .entry))) (heard (event .entry)) ⌝ }
         ensures refused { λ r. ⌜ Unless-refused r (now (self .entry)) (now (self .exit)) (Unit {0}) ⌝ }
     {
