@@ -56,24 +56,27 @@ module _ (M : ℕ) (small : M < 255) where
       let w = at-phase (waiting c ms) s in
       let a = at-phase (asking c ms) s in
       let same = bound cs s c ms (omega arith) in
-      let more = bound cs s c (ms ++ m ∷ []) (omega arith) in
-      (by-rules (Comes M cs w) (rules (submission m) w) (cell M w (waiting c ms) (submission m)) (λ n. same .0) (more .0),
-       by-rules (Comes M cs a) (rules (submission m) a) (cell M a (asking c ms) (submission m)) (λ n. same .1) (more .1))
-  bound (step reset ∷ cs) s c ms left =
-      (bound cs s c ms (omega arith) .0,
-       bound cs (tried s) c ms (attempts-left M (s .attempts) (timeouts cs) small (omega arith)) .0)
+      let more = bound cs s c (ms ++ m ∷ []) (omega arith) in (
+        by-rules (Comes M cs w) (rules (submission m) w) (cell M w (waiting c ms) (submission m)) (λ n. same .0) (more .0),
+        by-rules (Comes M cs a) (rules (submission m) a) (cell M a (asking c ms) (submission m)) (λ n. same .1) (more .1),
+      )
+  bound (step reset ∷ cs) s c ms left = (
+    bound cs s c ms (omega arith) .0,
+    bound cs (tried s) c ms (attempts-left M (s .attempts) (timeouts cs) small (omega arith)) .0,
+  )
   bound (step (ack n k) ∷ cs) s c ms left =
       let w = at-phase (waiting c ms) s in
       let a = at-phase (asking c ms) s in
       let same = bound cs (credited k s) c ms (omega arith) in
-      let again = bound cs (tried (credited k s)) c ms (attempts-left M (s .attempts) (timeouts cs) small (omega arith)) in
-      (elim (Bool·beq n (s .number)) as (λ b. Comes M cs w (gave (cond b (arrives ms (credited k w)) (rests (credited k w))))) [ true ↦ arrives-settles ms (credited k w) M cs w | false ↦ same .0 ],
-       elim (Bool·beq n (s .number)) as (λ b. Comes M cs a (gave (cond b (arrives ms (credited k a)) (sends-again c ms (credited k a))))) [ true ↦ arrives-settles ms (credited k a) M cs a | false ↦ again .0 ])
+      let again = bound cs (tried (credited k s)) c ms (attempts-left M (s .attempts) (timeouts cs) small (omega arith)) in (
+        elim (Bool·beq n (s .number)) as (λ b. Comes M cs w (gave (cond b (arrives ms (credited k w)) (rests (credited k w))))) [ true ↦ arrives-settles ms (credited k w) M cs w | false ↦ same .0 ],
+        elim (Bool·beq n (s .number)) as (λ b. Comes M cs a (gave (cond b (arrives ms (credited k a)) (sends-again c ms (credited k a))))) [ true ↦ arrives-settles ms (credited k a) M cs a | false ↦ again .0 ],
+      )
   bound (step timeout ∷ cs) s c ms left =
       let w = at-phase (waiting c ms) s in
       let a = at-phase (asking c ms) s in
       let rest : leb M (s .attempts) ≡ false → outcome-comes M (at-phase (asking c ms) (tried s)) cs ≡ true =
-          λ e. bound cs (tried s) c ms (attempt-used M (s .attempts) (timeouts cs) small (leb-false M (s .attempts) e) left) .1 in
+      λ e. bound cs (tried s) c ms (attempt-used M (s .attempts) (timeouts cs) small (leb-false M (s .attempts) e) left) .1 in
       (expired c ms w w cs (leb M (s .attempts)) refl rest, expired c ms a a cs (leb M (s .attempts)) refl rest)
 
 -- what the law asks of d where DATA was sent under the number other than n

@@ -64,22 +64,22 @@ queued m (asking c ms) = asking c (ms ++ m ∷ [])
 
 -- The table: what the station s does in its phase at what it hears. A submission while off is refused (below).
 abbrev pub cell : ℕ → Station → Phase → Heard → Did
-cell M s off            (submission m) = rests s
-cell M s off            reset          = rests (at ready s)
-cell M s off            (ack n k)      = rests (moved ready n (s .attempts) s)
-cell M s off            timeout        = asks off s
-cell M s ready          (submission m) = sends-next m [] 0 s
-cell M s ready          reset          = rests s
-cell M s ready          (ack n k)      = rests s
-cell M s ready          timeout        = rests s
+cell M s off (submission m) = rests s
+cell M s off reset = rests (at ready s)
+cell M s off (ack n k) = rests (moved ready n (s .attempts) s)
+cell M s off timeout = asks off s
+cell M s ready (submission m) = sends-next m [] 0 s
+cell M s ready reset = rests s
+cell M s ready (ack n k) = rests s
+cell M s ready timeout = rests s
 cell M s (waiting c ms) (submission m) = rests (at (queued m (waiting c ms)) s)
-cell M s (waiting c ms) reset          = rests s
-cell M s (waiting c ms) (ack n k)      = cond (Bool·beq n (s .number)) (arrives ms s) (rests s)
-cell M s (waiting c ms) timeout        = expires M c ms s
-cell M s (asking c ms)  (submission m) = rests (at (queued m (asking c ms)) s)
-cell M s (asking c ms)  reset          = sends-again c ms s
-cell M s (asking c ms)  (ack n k)      = cond (Bool·beq n (s .number)) (arrives ms s) (sends-again c ms s)
-cell M s (asking c ms)  timeout        = expires M c ms s
+cell M s (waiting c ms) reset = rests s
+cell M s (waiting c ms) (ack n k) = cond (Bool·beq n (s .number)) (arrives ms s) (rests s)
+cell M s (waiting c ms) timeout = expires M c ms s
+cell M s (asking c ms) (submission m) = rests (at (queued m (asking c ms)) s)
+cell M s (asking c ms) reset = sends-again c ms s
+cell M s (asking c ms) (ack n k) = cond (Bool·beq n (s .number)) (arrives ms s) (sends-again c ms s)
+cell M s (asking c ms) timeout = expires M c ms s
 
 -- every ACK sets the credit last heard, before the cell's action
 abbrev pub hears : Heard → Station → Station
