@@ -6,8 +6,6 @@ use lib.Dec.{lit≤}
 use lib.ListN.{getD, take, replicate}
 use Rattle.std.specs.declared.option.Option.{Option}
 use Rattle.std.specs.declared.option.Option.the-variants.{None, Some}
-use Rattle.std.specs.declared.result.Result.{Result}
-use Rattle.std.specs.declared.result.Result.the-variants.{Ok, Err}
 use Rattle.primary.specs.declared.outcome.Outcome.{Outcome}
 use Rattle.primary.specs.declared.outcome.Outcome.the-variants.{Arrived}
 use Rattle.primary.specs.declared.buffers.SendBuffer.{SendBuffer}
@@ -46,8 +44,3 @@ pub record Accepted (m : List ℕ) (t t′ : SendBuffers) : Type 0 where
   pub told : uncollected t′ ≡ uncollected t
   pub done : t′ .done ≡ t .done
   pub used : t′ .used ≡ t .used + 1
-
--- a refused call leaves x as it was; of any other, P holds
-abbrev pub Unless-refused : {A E X : Type 0} → Result A E → X → X → Type 0 → Type 0
-Unless-refused (Ok a) x x′ P = P
-Unless-refused (Err e) x x′ P = x′ ≡ x

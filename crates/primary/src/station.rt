@@ -4,8 +4,8 @@ ghost use Rattle.primary.specs.Busy.{under-way};
 use crate::buffers::SendBuffers;
 use packet::number::Number;
 
-pub mod cells;
-pub mod questions;
+mod cells;
+mod questions;
 
 #[derive(Clone, Copy)]
 pub enum State {

@@ -30,7 +30,7 @@ impl SendBuffer {
 }
 
 // Refuses what no DATA can carry, with 16 or 17.
-pub fn check_message(message: &[u8]) -> Result<(), Refusal>
+pub(crate) fn check_message(message: &[u8]) -> Result<(), Refusal>
     ensures { λ r. ⌜ answer (λ u. u) r ≡ judged (message-rules (now (message .entry))) tt ⌝ }
 {
     if message.len() < 1 || message.len() > 96 {
@@ -43,7 +43,7 @@ pub fn check_message(message: &[u8]) -> Result<(), Refusal>
 }
 
 impl SendBuffers {
-    pub fn new() -> SendBuffers
+    pub(crate) fn new() -> SendBuffers
         ensures { λ r. ⌜ unsettled r ≡ [] ⌝ ∗ ⌜ uncollected r ≡ [] ⌝ ∗ ⌜ r .done ≡ 0 ⌝ ∗ ⌜ r .used ≡ 0 ⌝ }
     {
         let empty = SendBuffer {
@@ -60,7 +60,7 @@ impl SendBuffers {
     }
 
     // How many messages are without outcome.
-    pub fn unsettled(&self) -> usize
+    pub(crate) fn unsettled(&self) -> usize
         ensures value { λ r. ⌜ r ≡ length (unsettled (now (self .entry))) ⌝ }
         ensures count { λ r. ⌜ r ≡ now (self .entry) .used - now (self .entry) .done ⌝ }
     {
@@ -68,14 +68,14 @@ impl SendBuffers {
     }
 
     // How many outcomes are not collected.
-    pub fn uncollected(&self) -> usize
+    pub(crate) fn uncollected(&self) -> usize
         ensures { λ r. ⌜ r ≡ length (uncollected (now (self .entry))) ⌝ }
     {
         self.done
     }
 
     // Refuses a message that no DATA can carry or that no buffer is free for, with 16, 17 or 19.
-    pub fn admit(&self, message: &[u8]) -> Result<(), Refusal>
+    pub(crate) fn admit(&self, message: &[u8]) -> Result<(), Refusal>
         ensures value { λ r. ⌜ answer (λ u. u) r ≡ judged (message-rules (now (message .entry)) ++ room-rules (length (unsettled (now (self .entry))) + length (uncollected (now (self .entry))))) tt ⌝ }
         ensures fits { λ r. ⌜ made r (λ _. (length (now (message .entry)) ≤ 96) × (now (self .entry) .used < 8)) ⌝ }
     {
@@ -89,7 +89,7 @@ impl SendBuffers {
     }
 
     // Takes a message into a free buffer.
-    pub fn put(&mut self, message: &[u8])
+    pub(crate) fn put(&mut self, message: &[u8])
         requires { ⌜ length (now message) ≤ 96 ⌝ ∗ ⌜ now self .used < 8 ⌝ }
         ensures { λ _. ⌜ Accepted (now (message .entry)) (now (self .entry)) (now (self .exit)) ⌝ }
     {
@@ -101,7 +101,7 @@ impl SendBuffers {
     }
 
     // The oldest message without outcome.
-    pub fn current(&self) -> Option<&[u8]>
+    pub(crate) fn current(&self) -> Option<&[u8]>
         ensures { λ r. ⌜ mapped now r ≡ first (unsettled (now (self .entry))) ⌝ }
     {
         if self.done == self.used {
@@ -112,7 +112,7 @@ impl SendBuffers {
     }
 
     // The oldest message without outcome gets one.
-    pub fn settle(&mut self, outcome: Outcome)
+    pub(crate) fn settle(&mut self, outcome: Outcome)
         requires { ⌜ now self .done < now self .used ⌝ }
         ensures waits { λ _. ⌜ unsettled (now (self .exit)) ≡ drop 1 (unsettled (now (self .entry))) ⌝ }
         ensures told { λ _. ⌜ uncollected (now (self .exit)) ≡ uncollected (now (self .entry)) ++ outcome ∷ [] ⌝ }
@@ -124,7 +124,7 @@ impl SendBuffers {
     }
 
     // Each message without outcome gets no connection.
-    pub fn settle_rest(&mut self)
+    pub(crate) fn settle_rest(&mut self)
         ensures waits { λ _. ⌜ unsettled (now (self .exit)) ≡ [] ⌝ }
         ensures told { λ _. ⌜ uncollected (now (self .exit)) ≡ uncollected (now (self .entry)) ++ replicate (length (unsettled (now (self .entry)))) NoConnection ⌝ }
         ensures count { λ _. ⌜ now (self .exit) .done ≡ now (self .exit) .used ⌝ }
@@ -135,7 +135,7 @@ impl SendBuffers {
     }
 
     // The oldest outcome not collected.
-    pub fn oldest_outcome(&self) -> Option<Outcome>
+    pub(crate) fn oldest_outcome(&self) -> Option<Outcome>
         ensures value { λ r. ⌜ r ≡ first (uncollected (now (self .entry))) ⌝ }
         ensures some { λ r. ⌜ found r (λ _. 0 < now (self .entry) .done) ⌝ }
     {
@@ -146,7 +146,7 @@ impl SendBuffers {
     }
 
     // Frees the buffer of the oldest outcome.
-    pub fn free_oldest(&mut self)
+    pub(crate) fn free_oldest(&mut self)
         requires { ⌜ 0 < now self .done ⌝ }
         ensures waits { λ _. ⌜ unsettled (now (self .exit)) ≡ unsettled (now (self .entry)) ⌝ }
         ensures told { λ _. ⌜ uncollected (now (self .exit)) ≡ drop 1 (uncollected (now (self .entry))) ⌝ }

@@ -7,11 +7,12 @@ ghost use lib.ListN.{getD, drop};
 ghost use Rattle.std.specs.Results.{isErr};
 ghost use Rattle.packet.specs.Refusals.{answer};
 ghost use Rattle.primary.specs.declared.station.State.the-variants.{Off, Ready, Waiting};
-ghost use Rattle.primary.specs.Buffers.{unsettled, Unless-refused};
+ghost use Rattle.primary.specs.Buffers.{unsettled};
+ghost use Rattle.primary.specs.Laws.{In-time};
 ghost use Rattle.primary.specs.Model.{model, did, heard};
-ghost use Rattle.primary.specs.Rules.{oldest};
-ghost use Rattle.primary.specs.Station.{submission};
-ghost use Rattle.primary.specs.Table.{asks, sends-again, sends-next, arrives, gives-up, expires, step-of, collected};
+ghost use Rattle.primary.specs.Rules.{oldest, Refused-unchanged};
+ghost use Rattle.primary.specs.Station.{ready, submission};
+ghost use Rattle.primary.specs.Table.{at, rests, asks, sends-again, sends-next, arrives, gives-up, expires, step-of, collected};
 use crate::buffers::ring::check_message;
 use crate::event::Event;
 use crate::event::Step;
@@ -27,6 +28,15 @@ impl Primary {
     {
         self.attempts = self.attempts.saturating_add(1);
         Step::enq()
+    }
+
+    // An answer came while the station was off.
+    fn connect(&mut self) -> Step
+        requires { ⌜ now self .state ≡ Off ⌝ }
+        ensures { λ r. ⌜ did (now (self .exit)) r ≡ rests (at ready (model (now (self .entry)))) ⌝ }
+    {
+        self.state = State::Ready;
+        Step::nothing()
     }
 
     // The oldest message without outcome is sent under the other number.
@@ -100,7 +110,7 @@ impl Primary {
     }
 
     // A message for a station that is off: it is refused, for what it is or else with 18.
-    fn submit_off(&self, message: &[u8]) -> Result<Step, Refusal>
+    fn refuse(&self, message: &[u8]) -> Result<Step, Refusal>
         requires { ⌜ now self .state ≡ Off ⌝ }
         ensures { λ r. ⌜ answer (did (now (self .entry))) r ≡ step-of 0 (model (now (self .entry))) (submission (now (message .entry))) ⌝ ∗ ⌜ isErr r ≡ true ⌝ }
     {
@@ -111,10 +121,10 @@ impl Primary {
     }
 
     // A message for a station that is ready: it is sent at once.
-    fn submit_ready(&mut self, message: &[u8]) -> Result<Step, Refusal>
+    fn send_first(&mut self, message: &[u8]) -> Result<Step, Refusal>
         requires { ⌜ now self .state ≡ Ready ⌝ }
         ensures value { λ r. ⌜ answer (did (now (self .exit))) r ≡ step-of 0 (model (now (self .entry))) (submission (now (message .entry))) ⌝ }
-        ensures refused { λ r. ⌜ Unless-refused r (now (self .entry)) (now (self .exit)) (Unit {0}) ⌝ }
+        ensures refused { λ r. ⌜ Refused-unchanged r (now (self .entry)) (now (self .exit)) ⌝ }
     {
         if let Err(refusal) = self.buffers.admit(message) {
             return Err(refusal);
@@ -125,10 +135,10 @@ impl Primary {
     }
 
     // A message while another is under way: it waits.
-    fn submit_busy(&mut self, message: &[u8]) -> Result<Step, Refusal>
+    fn queue(&mut self, message: &[u8]) -> Result<Step, Refusal>
         requires { ⌜ now self .buffers .done < now self .buffers .used ⌝ }
         ensures value { λ r. ⌜ answer (did (now (self .exit))) r ≡ step-of 0 (model (now (self .entry))) (submission (now (message .entry))) ⌝ }
-        ensures refused { λ r. ⌜ Unless-refused r (now (self .entry)) (now (self .exit)) (Unit {0}) ⌝ }
+        ensures refused { λ r. ⌜ Refused-unchanged r (now (self .entry)) (now (self .exit)) ⌝ }
     {
         if let Err(refusal) = self.buffers.admit(message) {
             return Err(refusal);
@@ -137,51 +147,46 @@ impl Primary {
         Ok(Step::nothing())
     }
 
-    // What the station does at an event, with attempt limit `limit`.
+    // What the station does at an event, with the attempt limit as it is now. Only a submission can be refused, with 16 to 19.
     pub fn step(&mut self, event: Event<'_>, limit: u8) -> Result<Step, Refusal>
         ensures value { λ r. ⌜ answer (did (now (self .exit))) r ≡ step-of limit (model (now (self .entry))) (heard (event .entry)) ⌝ }
-        ensures refused { λ r. ⌜ Unless-refused r (now (self .entry)) (now (self .exit)) (Unit {0}) ⌝ }
+        ensures refused { λ r. ⌜ Refused-unchanged r (now (self .entry)) (now (self .exit)) ⌝ }
+        ensures in_time { λ r. ⌜ In-time (model (now (self .entry))) (answer (did (now (self .exit))) r) ⌝ }
+    {
+        self.act(event, limit)
+    }
+
+    // The action table.
+    fn act(&mut self, event: Event<'_>, limit: u8) -> Result<Step, Refusal>
+        ensures value { λ r. ⌜ answer (did (now (self .exit))) r ≡ step-of limit (model (now (self .entry))) (heard (event .entry)) ⌝ }
+        ensures refused { λ r. ⌜ Refused-unchanged r (now (self .entry)) (now (self .exit)) ⌝ }
     {
         match (self.state, event) {
-            (State::Off, Event::Submission(message)) => self.submit_off(message),
-            (State::Off, Event::Reset) => {
-                self.state = State::Ready;
-                Ok(Step::nothing())
-            }
+            (State::Off, Event::Submission(message)) => self.refuse(message),
+            (State::Off, Event::Reset) => Ok(self.connect()),
             (State::Off, Event::Ack(number, credit)) => {
                 self.credit = credit;
                 self.number = number;
-                self.state = State::Ready;
-                Ok(Step::nothing())
+                Ok(self.connect())
             }
             (State::Off, Event::Timeout) => Ok(self.ask()),
-            (State::Ready, Event::Submission(message)) => self.submit_ready(message),
-            (State::Ready, Event::Ack(_, credit)) => {
+            (State::Ready, Event::Submission(message)) => self.send_first(message),
+            (State::Ready, Event::Reset | Event::Timeout) => Ok(Step::nothing()),
+            (State::Waiting, Event::Reset) => Ok(Step::nothing()),
+            (State::Waiting | State::Asking, Event::Submission(message)) => self.queue(message),
+            (State::Waiting | State::Asking, Event::Ack(n, credit)) if n == self.number => {
+                self.credit = credit;
+                Ok(self.arrived())
+            }
+            (State::Ready | State::Waiting, Event::Ack(_, credit)) => {
                 self.credit = credit;
                 Ok(Step::nothing())
             }
-            (State::Ready, Event::Reset | Event::Timeout) => Ok(Step::nothing()),
-            (State::Waiting | State::Asking, Event::Submission(message)) => self.submit_busy(
-                message,
-            ),
-            (State::Waiting, Event::Reset) => Ok(Step::nothing()),
-            (State::Waiting, Event::Ack(number, credit)) => {
+            (State::Asking, Event::Ack(_, credit)) => {
                 self.credit = credit;
-                if number == self.number {
-                    Ok(self.arrived())
-                } else {
-                    Ok(Step::nothing())
-                }
+                Ok(self.send_again())
             }
             (State::Asking, Event::Reset) => Ok(self.send_again()),
-            (State::Asking, Event::Ack(number, credit)) => {
-                self.credit = credit;
-                if number == self.number {
-                    Ok(self.arrived())
-                } else {
-                    Ok(self.send_again())
-                }
-            }
             (State::Waiting | State::Asking, Event::Timeout) => Ok(self.expired(limit)),
         }
     }
@@ -190,7 +195,7 @@ impl Primary {
     pub fn collect(&mut self) -> Result<Outcome, Refusal>
         ensures value { λ r. ⌜ answer (λ o. o) r ≡ oldest (model (now (self .entry)) .outcomes) ⌝ }
         ensures after { λ r. ⌜ model (now (self .exit)) ≡ collected (model (now (self .entry))) ⌝ }
-        ensures refused { λ r. ⌜ Unless-refused r (now (self .entry)) (now (self .exit)) (Unit {0}) ⌝ }
+        ensures refused { λ r. ⌜ Refused-unchanged r (now (self .entry)) (now (self .exit)) ⌝ }
     {
         let Some(outcome) = self.buffers.oldest_outcome() else {
             return Err(Refusal::NoOutcome);

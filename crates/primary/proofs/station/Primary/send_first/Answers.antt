@@ -11,7 +11,7 @@ use Rattle.primary.specs.Model.{model, phase-of}
 use Rattle.primary.specs.Station.{Message, is-off}
 use Rattle.primary.proofs.Cells.{denied}
 use Rattle.primary.proofs.Phases.{all-in, how-many}
-use Rattle.primary.proofs.station.Primary.submit_ready.Needs as need
+use Rattle.primary.proofs.station.Primary.send_first.Needs as need
 
 pub returns-in-Err : need.returns-in-Err
 returns-in-Err c =

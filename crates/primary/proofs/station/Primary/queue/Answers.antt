@@ -10,7 +10,7 @@ use Rattle.primary.specs.Model.{model}
 use Rattle.primary.specs.Station.{Message, Did}
 use Rattle.primary.proofs.Cells.{denied, admitted, busy-on, queues}
 use Rattle.primary.proofs.Phases.{all-in, how-many}
-use Rattle.primary.proofs.station.Primary.submit_busy.Needs as need
+use Rattle.primary.proofs.station.Primary.queue.Needs as need
 
 pub returns-in-Err : need.returns-in-Err
 returns-in-Err c =
