@@ -1,14 +1,29 @@
-// The calls on an end.
+// What an end sends, and what its primary station hears.
 ghost use mathlib.Core.Path.{_≡_};
 ghost use mathlib.Core.Bool.{true};
 ghost use mathlib.Core.List.{_++_};
 ghost use lib.ListN.{length, drop};
+ghost use Rattle.std.specs.Options.{mapped};
+ghost use Rattle.std.specs.Vec.{refused as where-refused};
 ghost use Rattle.packet.specs.Bytes.{byte-of};
 ghost use Rattle.packet.specs.Format.{packet};
 ghost use Rattle.packet.specs.Letters.{fits, allowed};
+ghost use Rattle.packet.specs.Refusals.{answer};
+ghost use Rattle.primary.specs.Model.{did, heard};
+ghost use Rattle.station.specs.End.{by-primary, timed, burst, written-over, hears, left-by, placed-by, seen};
+ghost use Rattle.station.specs.Models.{model};
+ghost use Rattle.station.specs.Reports.{told, telling};
+use crate::end::End;
+use crate::report::Report;
 use packet::checks::Check;
 use packet::letter::Letter;
+use packet::refusal::Refusal;
 use packet::writer::write;
+use primary::event::Event;
+use primary::event::Sent;
+use primary::event::Step;
+use primary::event::Timer;
+use settings::values::Settings;
 
 // Writes a packet that can be written to the front of `place`, and tells its length.
 fn send<K: Check>(letter: Letter, field: &[u8], place: &mut [u8; 104]) -> usize
@@ -19,5 +34,48 @@ fn send<K: Check>(letter: Letter, field: &[u8], place: &mut [u8; 104]) -> usize
     match write::<K>(letter.byte(), field, place) {
         Ok(n) => n,
         Err(_) => 0,
+    }
+}
+
+// A timer with its period as set now.
+fn with_period(settings: &Settings, timer: Option<Timer>) -> Option<(Timer, u16)>
+    ensures { λ r. ⌜ r ≡ mapped (timed (now (settings .entry))) timer ⌝ }
+{
+    match timer {
+        Some(Timer::Enq) => Some((Timer::Enq, settings.enq_period)),
+        Some(Timer::Data) => Some((Timer::Data, settings.data_period)),
+        None => None,
+    }
+}
+
+impl<K: Check> End<K> {
+    // Sends the command of a step, and tells of it.
+    fn command(&self, step: Step, place: &mut [u8; 104]) -> Report
+        ensures value { λ r. ⌜ told r ≡ telling (K·Check .meaning) (by-primary (model (now (self .entry) .settings) (now (self .entry) .primary) (now (self .entry) .secondary)) (did (now (self .entry) .primary) step)) ⌝ }
+        ensures placed { λ r. ⌜ now (place .exit) ≡ written-over (burst (K·Check .meaning) (by-primary (model (now (self .entry) .settings) (now (self .entry) .primary) (now (self .entry) .secondary)) (did (now (self .entry) .primary) step) .sent)) (now (place .entry)) ⌝ }
+    {
+        let mut report = Report {
+            sent: None,
+            length: 0,
+            timer: with_period(&self.settings, step.timer),
+            arrived: step.arrived,
+            given_up: step.given_up,
+            no_connection: step.no_connection,
+        };
+        match step.sent {
+            Sent::Nothing => {}
+            Sent::Enq => {
+                report.sent = Some(Letter::Enq);
+                report.length = send::<K>(Letter::Enq, &[], place);
+            }
+            Sent::Data(number) => {
+                if let Some(message) = self.primary.current() {
+                    let letter = Letter::data(number);
+                    report.sent = Some(letter);
+                    report.length = send::<K>(letter, message, place);
+                }
+            }
+        }
+        report
     }
 }
