@@ -78,4 +78,17 @@ impl<K: Check> End<K> {
         }
         report
     }
+
+    // The primary station hears something.
+    fn hear(&mut self, event: Event<'_>, place: &mut [u8; 104]) -> Result<Report, Refusal>
+        ensures value { λ r. ⌜ answer told r ≡ seen (telling (K·Check .meaning)) (hears (model (now (self .entry) .settings) (now (self .entry) .primary) (now (self .entry) .secondary)) (heard (event .entry))) ⌝ }
+        ensures after { λ _. ⌜ model (now (self .exit) .settings) (now (self .exit) .primary) (now (self .exit) .secondary) ≡ left-by (hears (model (now (self .entry) .settings) (now (self .entry) .primary) (now (self .entry) .secondary)) (heard (event .entry))) (model (now (self .entry) .settings) (now (self .entry) .primary) (now (self .entry) .secondary)) ⌝ }
+        ensures placed { λ _. ⌜ now (place .exit) ≡ placed-by (K·Check .meaning) (hears (model (now (self .entry) .settings) (now (self .entry) .primary) (now (self .entry) .secondary)) (heard (event .entry))) (now (place .entry)) ⌝ }
+        ensures unchanged { λ r. ⌜ where-refused r (λ _. (now (self .exit) .settings ≡ now (self .entry) .settings) × (now (self .exit) .primary ≡ now (self .entry) .primary) × (now (self .exit) .secondary ≡ now (self .entry) .secondary)) ⌝ }
+    {
+        match self.primary.step(event, self.settings.attempt_limit) {
+            Ok(step) => Ok(self.command(step, place)),
+            Err(refusal) => Err(refusal),
+        }
+    }
 }
