@@ -7,7 +7,7 @@ use native.Mathlib.Omega.{arith}
 use lib.ListN.{length, drop}
 use Rattle.std.proofs.shelf.Counted.{length-map-counting}
 use Rattle.packet.specs.Refusals.{Answer, gave, refused, Rule, _⇒_, judged}
-use Rattle.packet.proofs.Judging.{Passed, all-past}
+use Rattle.packet.proofs.Judging.{Passed, all-past, never}
 use Rattle.secondary.specs.declared.station.Secondary.{Secondary}
 use Rattle.secondary.specs.declared.deliveries.Deliveries.{Deliveries}
 use Rattle.secondary.specs.Buffers.{text-at, messages, next-buffer}
@@ -50,6 +50,15 @@ out-held s line buffer e = held-out (s .out) (s .deliveries .held) (s .«one_hel
 
 pub changed : {X : Type 0} (rs : List Rule) (x y : X) → Passed rs → or-kept (judged rs y) x ≡ y
 changed {X} rs x y p = ap (λ (a : Answer X). or-kept a x) (all-past rs y p)
+
+-- the same rules refuse whatever would be given
+pub refuses : {X Y : Type 0} (rs : List Rule) (x : X) (y : Y) (n : ℕ) → refused n ≡ judged rs x → judged rs y ≡ refused n
+refuses [] x y n e = never n x e
+refuses ((true, m) ∷ rs) x y n e = cc
+refuses ((false, m) ∷ rs) x y n e = refuses rs x y n e
+
+pub unchanged : {X Y : Type 0} (rs : List Rule) (x y : X) (z : Y) (n : ℕ) → refused n ≡ judged rs z → or-kept (judged rs y) x ≡ x
+unchanged {X} rs x y z n e = ap (λ (a : Answer X). or-kept a x) (refuses rs z y n e)
 
 -- a test that fails refuses, and leaves what was there
 module _ {X : Type 0} (n : ℕ) (x y : X) where

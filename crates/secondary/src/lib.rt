@@ -1,5 +1,5 @@
 // The secondary station of one end of a line, and the slips of its deliveries.
-pub mod deliveries;
+mod deliveries;
 pub mod reading;
 pub mod reply;
 pub mod station;

@@ -21,4 +21,6 @@ pub struct Secondary {
 }
 
 pub mod commands;
-pub mod slips;
+pub mod lending;
+pub mod questions;
+pub mod slip;

@@ -30,7 +30,7 @@ impl Delivery {
 }
 
 impl Deliveries {
-    pub fn new() -> Deliveries
+    pub(crate) fn new() -> Deliveries
         ensures { λ r. ⌜ messages r ≡ [] ⌝ ∗ ⌜ r .oldest ≡ 0 ⌝ ∗ ⌜ r .held ≡ 0 ⌝ }
     {
         let empty = Delivery {
@@ -44,21 +44,21 @@ impl Deliveries {
         }
     }
 
-    pub fn held(&self) -> u8
+    pub(crate) fn held(&self) -> u8
         ensures { λ r. ⌜ r ≡ length (messages (now (self .entry))) ⌝ }
     {
         self.held as u8
     }
 
     // The number of the oldest buffer.
-    pub fn oldest(&self) -> u8
+    pub(crate) fn oldest(&self) -> u8
         ensures { λ r. ⌜ r ≡ now (self .entry) .oldest ⌝ }
     {
         self.oldest as u8
     }
 
     // Stores the message in the next buffer.
-    pub fn store(&mut self, message: &[u8])
+    pub(crate) fn store(&mut self, message: &[u8])
         requires { ⌜ length (now message) ≤ 96 ⌝ ∗ ⌜ now self .held < 8 ⌝ }
         ensures messages { λ _. ⌜ messages (now (self .exit)) ≡ messages (now (self .entry)) ++ now (message .entry) ∷ [] ⌝ }
         ensures oldest { λ _. ⌜ now (self .exit) .oldest ≡ now (self .entry) .oldest ⌝ }
@@ -72,7 +72,7 @@ impl Deliveries {
     }
 
     // Copies the oldest message to the front of `place`, and tells its length.
-    pub fn copy_oldest(&self, place: &mut [u8]) -> usize
+    pub(crate) fn copy_oldest(&self, place: &mut [u8]) -> usize
         requires { ⌜ 96 ≤ length (now place) ⌝ ∗ ⌜ 0 < now self .held ⌝ }
         ensures value { λ r. ⌜ r ≡ length (oldest-of (messages (now (self .entry)))) ⌝ }
         ensures copied { λ _. ⌜ now (place .exit) ≡ oldest-of (messages (now (self .entry))) ++ drop (length (oldest-of (messages (now (self .entry))))) (now (place .entry)) ⌝ }
@@ -82,7 +82,7 @@ impl Deliveries {
     }
 
     // Frees the oldest buffer.
-    pub fn release(&mut self)
+    pub(crate) fn release(&mut self)
         requires { ⌜ 0 < now self .held ⌝ }
         ensures messages { λ _. ⌜ messages (now (self .exit)) ≡ drop 1 (messages (now (self .entry))) ⌝ }
         ensures oldest { λ _. ⌜ now (self .exit) .oldest ≡ (now (self .entry) .oldest + 1) % 8 ⌝ }

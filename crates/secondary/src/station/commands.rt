@@ -1,10 +1,9 @@
-// The opening, the two commands, and what the station is asked.
+// The opening and the two commands.
 ghost use mathlib.Core.Path.{_≡_};
-ghost use lib.ListN.{length};
 ghost use Rattle.std.specs.Vec.{refused as where-refused};
 ghost use Rattle.packet.specs.Refusals.{answer};
 ghost use Rattle.secondary.specs.Laws.{Leave-in-order};
-ghost use Rattle.secondary.specs.Station.{model, opened, free-buffers, enq-answer, data-answer, after-data, buffer-out};
+ghost use Rattle.secondary.specs.Station.{model, opened, free-buffers, enq-answer, data-answer, after-data};
 use super::Secondary;
 use crate::deliveries::Deliveries;
 use crate::reply::Reply;
@@ -18,35 +17,17 @@ impl Secondary {
         ensures value { λ r. ⌜ model r ≡ opened line ⌝ }
         ensures in_order { λ r. ⌜ Leave-in-order (model r) ⌝ }
     {
+        Secondary::empty(line)
+    }
+
+    fn empty(line: u8) -> Secondary
+        ensures { λ r. ⌜ model r ≡ opened line ⌝ }
+    {
         Secondary {
             line,
             last: Reply::Reset,
             deliveries: Deliveries::new(),
             out: false,
-        }
-    }
-
-    pub fn last_answer(&self) -> Reply
-        ensures { λ r. ⌜ r ≡ model (now (self .entry)) .last ⌝ }
-    {
-        self.last
-    }
-
-    // How many deliveries are held, the one that is out counted.
-    pub fn held(&self) -> u8
-        ensures { λ r. ⌜ r ≡ length (model (now (self .entry)) .held) ⌝ }
-    {
-        self.deliveries.held()
-    }
-
-    // The number of the buffer that is out.
-    pub fn buffer_out(&self) -> Option<u8>
-        ensures { λ r. ⌜ r ≡ buffer-out (model (now (self .entry))) ⌝ }
-    {
-        if self.out {
-            Some(self.deliveries.oldest())
-        } else {
-            None
         }
     }
 

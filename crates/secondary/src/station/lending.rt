@@ -3,30 +3,30 @@ ghost use mathlib.Core.Path.{_≡_};
 ghost use lib.ListN.{length};
 ghost use Rattle.std.specs.Results.{Cases};
 ghost use Rattle.std.specs.Vec.{refused as where-refused};
-ghost use Rattle.packet.specs.Refusals.{answer};
+ghost use Rattle.packet.specs.Refusals.{answer, judged};
 ghost use Rattle.secondary.specs.Laws.{Stays-out};
-ghost use Rattle.secondary.specs.Station.{model, taken, take-answer, after-take, place-after, given, give-answer, after-give, handed-back, slips-after, slip-out};
+ghost use Rattle.secondary.specs.Station.{model, taken, take-rules, take-answer, after-take, place-after, given, give-answer, after-give, handed-back, slips-after, slip-out};
 use super::DeliverySlip;
 use super::Secondary;
 use packet::refusal::Refusal;
 
-impl DeliverySlip {
-    // The number of the line that the delivery came by.
-    pub fn line(&self) -> u8
-        ensures { λ r. ⌜ r ≡ now (self .entry) .line ⌝ }
-    {
-        self.line
-    }
-
-    // The number of the buffer that is out.
-    pub fn buffer(&self) -> u8
-        ensures { λ r. ⌜ r ≡ now (self .entry) .buffer ⌝ }
-    {
-        self.buffer
-    }
-}
-
 impl Secondary {
+    // Refuses a take into a place of `size` bytes.
+    fn may_take(&self, size: usize) -> Result<(), Refusal>
+        ensures { λ r. ⌜ answer (λ u. u) r ≡ judged (take-rules size (model (now (self .entry)))) tt ⌝ }
+    {
+        if size < 96 {
+            return Err(Refusal::PlaceTooShort);
+        }
+        if self.out {
+            return Err(Refusal::DeliveryOut);
+        }
+        if self.held() == 0 {
+            return Err(Refusal::NoDelivery);
+        }
+        Ok(())
+    }
+
     // Copies the oldest delivery to the front of `place`; its length, and the slip to give it back by.
     pub fn take(&mut self, place: &mut [u8]) -> Result<(usize, DeliverySlip), Refusal>
         ensures value { λ r. ⌜ answer taken r ≡ take-answer (length (now (place .entry))) (model (now (self .entry))) ⌝ }
@@ -35,14 +35,8 @@ impl Secondary {
         ensures unchanged { λ r. ⌜ where-refused r (λ _. now (self .exit) ≡ now (self .entry)) ⌝ }
         ensures out { λ r. ⌜ Cases r (λ x. Stays-out (x .1 .line) (x .1 .buffer) (model (now (self .exit)))) (λ _. Unit {0}) ⌝ }
     {
-        if place.len() < 96 {
-            return Err(Refusal::PlaceTooShort);
-        }
-        if self.out {
-            return Err(Refusal::DeliveryOut);
-        }
-        if self.held() == 0 {
-            return Err(Refusal::NoDelivery);
+        if let Err(refusal) = self.may_take(place.len()) {
+            return Err(refusal);
         }
         let length = self.deliveries.copy_oldest(place);
         self.out = true;
