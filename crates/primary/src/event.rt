@@ -1,6 +1,9 @@
 // What a primary station hears and what it then does.
 ghost use mathlib.Core.Path.{_≡_};
+ghost use Rattle.packet.specs.Numbers.{is-one};
 ghost use Rattle.primary.specs.Events.{still, asks-again, carries};
+ghost use Rattle.primary.specs.Model.{heard};
+ghost use Rattle.primary.specs.Station.{reset, ack, timeout};
 use packet::number::Number;
 
 // A message to send, an answer heard (ACK with its number and credit), or no answer in time.
@@ -10,6 +13,26 @@ pub enum Event<'a> {
     Reset,
     Ack(Number, u8),
     Timeout,
+}
+
+impl Event<'_> {
+    pub fn reset() -> Event<'static>
+        ensures { λ r. ⌜ heard r ≡ reset ⌝ }
+    {
+        Event::Reset
+    }
+
+    pub fn ack(number: Number, credit: u8) -> Event<'static>
+        ensures { λ r. ⌜ heard r ≡ ack (is-one number) credit ⌝ }
+    {
+        Event::Ack(number, credit)
+    }
+
+    pub fn timeout() -> Event<'static>
+        ensures { λ r. ⌜ heard r ≡ timeout ⌝ }
+    {
+        Event::Timeout
+    }
 }
 
 #[derive(Clone, Copy)]

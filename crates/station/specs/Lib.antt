@@ -1,3 +1,4 @@
+pub mod Answerable
 pub mod End
 pub mod Models
 pub mod Reports

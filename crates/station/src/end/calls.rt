@@ -8,21 +8,25 @@ ghost use Rattle.std.specs.Vec.{refused as where-refused};
 ghost use Rattle.packet.specs.Bytes.{byte-of};
 ghost use Rattle.packet.specs.Format.{packet};
 ghost use Rattle.packet.specs.Letters.{fits, allowed};
-ghost use Rattle.packet.specs.Refusals.{answer};
+ghost use Rattle.packet.specs.Refusals.{answer, gave};
 ghost use Rattle.primary.specs.Model.{did, heard};
-ghost use Rattle.station.specs.End.{by-primary, timed, burst, written-over, hears, left-by, placed-by, seen};
+ghost use Rattle.secondary.specs.Station.{model as secondary-model};
+ghost use Rattle.station.specs.End.{by-primary, by-secondary, answer-parts, timed, burst, written-over, hears, submission, timeout, enq-heard, data-heard, left-by, placed-by, seen};
+ghost use Rattle.station.specs.Answerable.{Answerable};
 ghost use Rattle.station.specs.Models.{model};
 ghost use Rattle.station.specs.Reports.{told, telling};
 use crate::end::End;
 use crate::report::Report;
 use packet::checks::Check;
 use packet::letter::Letter;
+use packet::number::Number;
 use packet::refusal::Refusal;
 use packet::writer::write;
 use primary::event::Event;
 use primary::event::Sent;
 use primary::event::Step;
 use primary::event::Timer;
+use secondary::reply::Response;
 use settings::values::Settings;
 
 // Writes a packet that can be written to the front of `place`, and tells its length.
@@ -88,6 +92,85 @@ impl<K: Check> End<K> {
     {
         match self.primary.step(event, self.settings.attempt_limit) {
             Ok(step) => Ok(self.command(step, place)),
+            Err(refusal) => Err(refusal),
+        }
+    }
+
+    // Sends an answer of the secondary station, and tells of it.
+    fn respond(&self, response: Response, place: &mut [u8; 104]) -> Report
+        requires { ⌜ Answerable response ⌝ }
+        ensures value { λ r. ⌜ told r ≡ telling (K·Check .meaning) (by-secondary (model (now (self .entry) .settings) (now (self .entry) .primary) (now (self .entry) .secondary)) (secondary-model (now (self .entry) .secondary)) response) ⌝ }
+        ensures placed { λ r. ⌜ now (place .exit) ≡ written-over (burst (K·Check .meaning) (answer-parts response)) (now (place .entry)) ⌝ }
+    {
+        let mut report = Report {
+            sent: None,
+            length: 0,
+            timer: None,
+            arrived: 0,
+            given_up: 0,
+            no_connection: 0,
+        };
+        match response {
+            Response::Nothing => {}
+            Response::Reset => {
+                report.sent = Some(Letter::Reset);
+                report.length = send::<K>(Letter::Reset, &[], place);
+            }
+            Response::Ack(number, credit) => {
+                let letter = Letter::ack(number);
+                report.sent = Some(letter);
+                report.length = send::<K>(letter, &[0x30 + credit], place);
+            }
+        }
+        report
+    }
+
+    // A message to send.
+    pub fn submit(&mut self, message: &[u8], place: &mut [u8; 104]) -> Result<Report, Refusal>
+        ensures value { λ r. ⌜ answer told r ≡ seen (telling (K·Check .meaning)) (submission (model (now (self .entry) .settings) (now (self .entry) .primary) (now (self .entry) .secondary)) (now (message .entry))) ⌝ }
+        ensures after { λ _. ⌜ model (now (self .exit) .settings) (now (self .exit) .primary) (now (self .exit) .secondary) ≡ left-by (submission (model (now (self .entry) .settings) (now (self .entry) .primary) (now (self .entry) .secondary)) (now (message .entry))) (model (now (self .entry) .settings) (now (self .entry) .primary) (now (self .entry) .secondary)) ⌝ }
+        ensures placed { λ _. ⌜ now (place .exit) ≡ placed-by (K·Check .meaning) (submission (model (now (self .entry) .settings) (now (self .entry) .primary) (now (self .entry) .secondary)) (now (message .entry))) (now (place .entry)) ⌝ }
+        ensures unchanged { λ r. ⌜ where-refused r (λ _. (now (self .exit) .settings ≡ now (self .entry) .settings) × (now (self .exit) .primary ≡ now (self .entry) .primary) × (now (self .exit) .secondary ≡ now (self .entry) .secondary)) ⌝ }
+    {
+        self.hear(Event::Submission(message), place)
+    }
+
+    // No answer came in time. This is never refused.
+    pub fn timeout(&mut self, place: &mut [u8; 104]) -> Report
+        ensures value { λ r. ⌜ gave (told r) ≡ seen (telling (K·Check .meaning)) (timeout (model (now (self .entry) .settings) (now (self .entry) .primary) (now (self .entry) .secondary))) ⌝ }
+        ensures after { λ _. ⌜ model (now (self .exit) .settings) (now (self .exit) .primary) (now (self .exit) .secondary) ≡ left-by (timeout (model (now (self .entry) .settings) (now (self .entry) .primary) (now (self .entry) .secondary))) (model (now (self .entry) .settings) (now (self .entry) .primary) (now (self .entry) .secondary)) ⌝ }
+        ensures placed { λ _. ⌜ now (place .exit) ≡ placed-by (K·Check .meaning) (timeout (model (now (self .entry) .settings) (now (self .entry) .primary) (now (self .entry) .secondary))) (now (place .entry)) ⌝ }
+    {
+        match self.hear(Event::timeout(), place) {
+            Ok(report) => report,
+            Err(_) => unreachable(),
+        }
+    }
+
+    // ENQ arrived.
+    fn hear_enq(&self, place: &mut [u8; 104]) -> Report
+        ensures value { λ r. ⌜ gave (told r) ≡ seen (telling (K·Check .meaning)) (enq-heard (model (now (self .entry) .settings) (now (self .entry) .primary) (now (self .entry) .secondary))) ⌝ }
+        ensures placed { λ _. ⌜ now (place .exit) ≡ placed-by (K·Check .meaning) (enq-heard (model (now (self .entry) .settings) (now (self .entry) .primary) (now (self .entry) .secondary))) (now (place .entry)) ⌝ }
+    {
+        let response = self.secondary.enq(self.settings.receive_limit);
+        self.respond(response, place)
+    }
+
+    // DATA arrived.
+    fn hear_data(
+        &mut self,
+        number: Number,
+        message: &[u8],
+        place: &mut [u8; 104],
+    ) -> Result<Report, Refusal>
+        ensures value { λ r. ⌜ answer told r ≡ seen (telling (K·Check .meaning)) (data-heard (model (now (self .entry) .settings) (now (self .entry) .primary) (now (self .entry) .secondary)) number (now (message .entry))) ⌝ }
+        ensures after { λ _. ⌜ model (now (self .exit) .settings) (now (self .exit) .primary) (now (self .exit) .secondary) ≡ left-by (data-heard (model (now (self .entry) .settings) (now (self .entry) .primary) (now (self .entry) .secondary)) number (now (message .entry))) (model (now (self .entry) .settings) (now (self .entry) .primary) (now (self .entry) .secondary)) ⌝ }
+        ensures placed { λ _. ⌜ now (place .exit) ≡ placed-by (K·Check .meaning) (data-heard (model (now (self .entry) .settings) (now (self .entry) .primary) (now (self .entry) .secondary)) number (now (message .entry))) (now (place .entry)) ⌝ }
+        ensures unchanged { λ r. ⌜ where-refused r (λ _. (now (self .exit) .settings ≡ now (self .entry) .settings) × (now (self .exit) .primary ≡ now (self .entry) .primary) × (now (self .exit) .secondary ≡ now (self .entry) .secondary)) ⌝ }
+    {
+        match self.secondary
+            .data(number, message, self.settings.receive_limit) {
+            Ok(response) => Ok(self.respond(response, place)),
             Err(refusal) => Err(refusal),
         }
     }
