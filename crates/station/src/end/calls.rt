@@ -2,16 +2,19 @@
 ghost use mathlib.Core.Path.{_≡_};
 ghost use mathlib.Core.Bool.{true};
 ghost use mathlib.Core.List.{_++_};
-ghost use lib.ListN.{length, drop};
+ghost use Prim.Native.Nat.{_-_};
+ghost use lib.ListN.{length, getD, drop};
 ghost use Rattle.std.specs.Options.{mapped};
 ghost use Rattle.std.specs.Vec.{refused as where-refused};
 ghost use Rattle.packet.specs.Bytes.{byte-of};
-ghost use Rattle.packet.specs.Format.{packet};
+ghost use Rattle.packet.specs.Format.{packet, parts};
 ghost use Rattle.packet.specs.Letters.{fits, allowed};
 ghost use Rattle.packet.specs.Refusals.{answer, gave};
+ghost use Rattle.packet.specs.Numbers.{is-one};
 ghost use Rattle.primary.specs.Model.{did, heard};
+ghost use Rattle.primary.specs.Station.{ack, reset};
 ghost use Rattle.secondary.specs.Station.{model as secondary-model};
-ghost use Rattle.station.specs.End.{by-primary, by-secondary, answer-parts, timed, burst, written-over, hears, submission, timeout, enq-heard, data-heard, left-by, placed-by, seen};
+ghost use Rattle.station.specs.End.{by-primary, by-secondary, answer-parts, timed, burst, written-over, hears, submission, timeout, enq-heard, data-heard, dispatched, arrival, left-by, placed-by, seen};
 ghost use Rattle.station.specs.Answerable.{Answerable};
 ghost use Rattle.station.specs.Models.{model};
 ghost use Rattle.station.specs.Reports.{told, telling};
@@ -20,6 +23,7 @@ use crate::report::Report;
 use packet::checks::Check;
 use packet::letter::Letter;
 use packet::number::Number;
+use packet::reader::read;
 use packet::refusal::Refusal;
 use packet::writer::write;
 use primary::event::Event;
@@ -50,6 +54,16 @@ fn with_period(settings: &Settings, timer: Option<Timer>) -> Option<(Timer, u16)
         Some(Timer::Data) => Some((Timer::Data, settings.data_period)),
         None => None,
     }
+}
+
+// The credit in the field of an ACK.
+fn credit_in(field: &[u8]) -> u8
+    ensures { λ r. ⌜ r ≡ getD (now (field .entry)) 0 0 - 0x30 ⌝ }
+{
+    if field.is_empty() {
+        return 0;
+    }
+    field[0].saturating_sub(0x30)
 }
 
 impl<K: Check> End<K> {
@@ -171,6 +185,66 @@ impl<K: Check> End<K> {
         match self.secondary
             .data(number, message, self.settings.receive_limit) {
             Ok(response) => Ok(self.respond(response, place)),
+            Err(refusal) => Err(refusal),
+        }
+    }
+
+    // ACK arrived.
+    fn hear_ack(
+        &mut self,
+        number: Number,
+        field: &[u8],
+        place: &mut [u8; 104],
+    ) -> Result<Report, Refusal>
+        ensures value { λ r. ⌜ answer told r ≡ seen (telling (K·Check .meaning)) (hears (model (now (self .entry) .settings) (now (self .entry) .primary) (now (self .entry) .secondary)) (ack (is-one number) (getD (now (field .entry)) 0 0 - 0x30))) ⌝ }
+        ensures after { λ _. ⌜ model (now (self .exit) .settings) (now (self .exit) .primary) (now (self .exit) .secondary) ≡ left-by (hears (model (now (self .entry) .settings) (now (self .entry) .primary) (now (self .entry) .secondary)) (ack (is-one number) (getD (now (field .entry)) 0 0 - 0x30))) (model (now (self .entry) .settings) (now (self .entry) .primary) (now (self .entry) .secondary)) ⌝ }
+        ensures placed { λ _. ⌜ now (place .exit) ≡ placed-by (K·Check .meaning) (hears (model (now (self .entry) .settings) (now (self .entry) .primary) (now (self .entry) .secondary)) (ack (is-one number) (getD (now (field .entry)) 0 0 - 0x30))) (now (place .entry)) ⌝ }
+        ensures unchanged { λ r. ⌜ where-refused r (λ _. (now (self .exit) .settings ≡ now (self .entry) .settings) × (now (self .exit) .primary ≡ now (self .entry) .primary) × (now (self .exit) .secondary ≡ now (self .entry) .secondary)) ⌝ }
+    {
+        self.hear(Event::ack(number, credit_in(field)), place)
+    }
+
+    // RESET arrived.
+    fn hear_reset(&mut self, place: &mut [u8; 104]) -> Result<Report, Refusal>
+        ensures value { λ r. ⌜ answer told r ≡ seen (telling (K·Check .meaning)) (hears (model (now (self .entry) .settings) (now (self .entry) .primary) (now (self .entry) .secondary)) reset) ⌝ }
+        ensures after { λ _. ⌜ model (now (self .exit) .settings) (now (self .exit) .primary) (now (self .exit) .secondary) ≡ left-by (hears (model (now (self .entry) .settings) (now (self .entry) .primary) (now (self .entry) .secondary)) reset) (model (now (self .entry) .settings) (now (self .entry) .primary) (now (self .entry) .secondary)) ⌝ }
+        ensures placed { λ _. ⌜ now (place .exit) ≡ placed-by (K·Check .meaning) (hears (model (now (self .entry) .settings) (now (self .entry) .primary) (now (self .entry) .secondary)) reset) (now (place .entry)) ⌝ }
+        ensures unchanged { λ r. ⌜ where-refused r (λ _. (now (self .exit) .settings ≡ now (self .entry) .settings) × (now (self .exit) .primary ≡ now (self .entry) .primary) × (now (self .exit) .secondary ≡ now (self .entry) .secondary)) ⌝ }
+    {
+        self.hear(Event::reset(), place)
+    }
+
+    // Hands a packet that arrived to the station that it is for.
+    fn dispatch(
+        &mut self,
+        letter: Letter,
+        field: &[u8],
+        place: &mut [u8; 104],
+    ) -> Result<Report, Refusal>
+        ensures value { λ r. ⌜ answer told r ≡ seen (telling (K·Check .meaning)) (dispatched (model (now (self .entry) .settings) (now (self .entry) .primary) (now (self .entry) .secondary)) (parts (byte-of letter) 2 (now (field .entry)))) ⌝ }
+        ensures after { λ _. ⌜ model (now (self .exit) .settings) (now (self .exit) .primary) (now (self .exit) .secondary) ≡ left-by (dispatched (model (now (self .entry) .settings) (now (self .entry) .primary) (now (self .entry) .secondary)) (parts (byte-of letter) 2 (now (field .entry)))) (model (now (self .entry) .settings) (now (self .entry) .primary) (now (self .entry) .secondary)) ⌝ }
+        ensures placed { λ _. ⌜ now (place .exit) ≡ placed-by (K·Check .meaning) (dispatched (model (now (self .entry) .settings) (now (self .entry) .primary) (now (self .entry) .secondary)) (parts (byte-of letter) 2 (now (field .entry)))) (now (place .entry)) ⌝ }
+        ensures unchanged { λ r. ⌜ where-refused r (λ _. (now (self .exit) .settings ≡ now (self .entry) .settings) × (now (self .exit) .primary ≡ now (self .entry) .primary) × (now (self .exit) .secondary ≡ now (self .entry) .secondary)) ⌝ }
+    {
+        match letter {
+            Letter::Enq => Ok(self.hear_enq(place)),
+            Letter::Data0 => self.hear_data(Number::Zero, field, place),
+            Letter::Data1 => self.hear_data(Number::One, field, place),
+            Letter::Ack0 => self.hear_ack(Number::Zero, field, place),
+            Letter::Ack1 => self.hear_ack(Number::One, field, place),
+            Letter::Reset => self.hear_reset(place),
+        }
+    }
+
+    // A burst arrived: refused with 1 to 7, or heard.
+    pub fn arrive(&mut self, burst: &[u8], place: &mut [u8; 104]) -> Result<Report, Refusal>
+        ensures value { λ r. ⌜ answer told r ≡ seen (telling (K·Check .meaning)) (arrival (K·Check .size) (K·Check .meaning) (model (now (self .entry) .settings) (now (self .entry) .primary) (now (self .entry) .secondary)) (now (burst .entry))) ⌝ }
+        ensures after { λ _. ⌜ model (now (self .exit) .settings) (now (self .exit) .primary) (now (self .exit) .secondary) ≡ left-by (arrival (K·Check .size) (K·Check .meaning) (model (now (self .entry) .settings) (now (self .entry) .primary) (now (self .entry) .secondary)) (now (burst .entry))) (model (now (self .entry) .settings) (now (self .entry) .primary) (now (self .entry) .secondary)) ⌝ }
+        ensures placed { λ _. ⌜ now (place .exit) ≡ placed-by (K·Check .meaning) (arrival (K·Check .size) (K·Check .meaning) (model (now (self .entry) .settings) (now (self .entry) .primary) (now (self .entry) .secondary)) (now (burst .entry))) (now (place .entry)) ⌝ }
+        ensures unchanged { λ r. ⌜ where-refused r (λ _. (now (self .exit) .settings ≡ now (self .entry) .settings) × (now (self .exit) .primary ≡ now (self .entry) .primary) × (now (self .exit) .secondary ≡ now (self .entry) .secondary)) ⌝ }
+    {
+        match read::<K>(burst) {
+            Ok(packet) => self.dispatch(packet.letter, packet.field, place),
             Err(refusal) => Err(refusal),
         }
     }
