@@ -20,3 +20,6 @@ pub struct End<K: Check> {
 }
 
 pub mod calls;
+pub mod opening;
+pub mod outcomes;
+pub mod questions;

@@ -68,7 +68,7 @@ fn credit_in(field: &[u8]) -> u8
 
 impl<K: Check> End<K> {
     // Sends the command of a step, and tells of it.
-    fn command(&self, step: Step, place: &mut [u8; 104]) -> Report
+    pub(crate) fn command(&self, step: Step, place: &mut [u8; 104]) -> Report
         ensures value { λ r. ⌜ told r ≡ telling (K·Check .meaning) (by-primary (model (now (self .entry) .settings) (now (self .entry) .primary) (now (self .entry) .secondary)) (did (now (self .entry) .primary) step)) ⌝ }
         ensures placed { λ r. ⌜ now (place .exit) ≡ written-over (burst (K·Check .meaning) (by-primary (model (now (self .entry) .settings) (now (self .entry) .primary) (now (self .entry) .secondary)) (did (now (self .entry) .primary) step) .sent)) (now (place .entry)) ⌝ }
     {
