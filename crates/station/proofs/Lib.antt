@@ -1,2 +1,3 @@
 pub mod Sending
 pub mod Sendable
+pub mod Orders

@@ -2,4 +2,5 @@ pub mod Answerable
 pub mod End
 pub mod Models
 pub mod Reports
+pub mod Runs
 pub mod Valid

@@ -1,11 +1,12 @@
 // The opening of an end, and its settings.
 ghost use mathlib.Core.Path.{_≡_};
-ghost use Rattle.std.specs.Vec.{refused as where-refused};
+ghost use Rattle.std.specs.Vec.{made as where-made, refused as where-refused};
 ghost use Rattle.packet.specs.Refusals.{answer};
 ghost use Rattle.settings.specs.Frame.{told as set-told};
 ghost use Rattle.station.specs.End.{opening-of, change, set-by, placed-by, seen, awaiting};
 ghost use Rattle.station.specs.Models.{model};
 ghost use Rattle.station.specs.Reports.{told, telling};
+ghost use Rattle.station.specs.Runs.{Leave-in-order};
 use crate::end::End;
 use crate::report::Report;
 use packet::checks::Check;
@@ -26,6 +27,7 @@ impl<K: Check + Drop> End<K> {
     ) -> Result<(End<K>, Report), Refusal>
         ensures value { λ r. ⌜ answer (λ x. told (x .1)) r ≡ seen (telling (K·Check .meaning)) (opening-of line (now (frame .entry))) ⌝ }
         ensures made { λ r. ⌜ answer (λ x. model (x .0 .settings) (x .0 .primary) (x .0 .secondary)) r ≡ seen (λ d. d .next) (opening-of line (now (frame .entry))) ⌝ }
+        ensures in_order { λ r. ⌜ where-made r (λ x. Leave-in-order (K·Check .size) (K·Check .meaning) (model (x .0 .settings) (x .0 .primary) (x .0 .secondary))) ⌝ }
         ensures placed { λ _. ⌜ now (place .exit) ≡ placed-by (K·Check .meaning) (opening-of line (now (frame .entry))) (now (place .entry)) ⌝ }
     {
         match parse(frame) {
