@@ -17,7 +17,7 @@ use Rattle.secondary.specs.Laws as deliveries
 use Rattle.secondary.specs.Station as secondary
 use Rattle.settings.specs.declared.values.Settings.{Settings}
 use Rattle.station.specs.End.{End, Done, limit, hears, by-primary, by-secondary, enq-heard, data-heard, dispatched, after-reading, arrival, left-by, set-by, seen, change}
-use Rattle.station.specs.Runs.{Call, Submit, Arrive, Expire, Take, Give, Collect, Set, asked-by, after, after-all, asked, asked-all, Leave-in-order}
+use Rattle.station.specs.Runs.{Call, Submit, Arrive, Expire, Take, Give, Collect, Set, asked-by, after, after-all, asked, asked-all, Leave-in-order, Stays-out}
 
 -- the primary station's calls leave the secondary alone
 apart : (e : End) (x : Answer primary.Did) → left-by (seen (by-primary e) x) e .secondary ≡ e .secondary
@@ -76,3 +76,10 @@ module _ (c : ℕ) (check : List ℕ → List ℕ) where
   pub in-order : (e : End) → deliveries.Leave-in-order (e .secondary) → Leave-in-order c check e
   in-order e law ks =
       ap (λ (s : secondary.Station). deliveries.given-all [] (asked-all c check ks e) (e .secondary) ++ s .held) (every ks e) ∙ law (asked-all c check ks e)
+
+  pub stays-out : (line buffer : ℕ) (e : End) → deliveries.Stays-out line buffer (e .secondary) → Stays-out c check line buffer e
+  stays-out line buffer e law ks spares =
+      let there = law (asked-all c check ks e) spares in (
+        λ size h. ap (secondary.take-answer size) (every ks e) ∙ there .0 size h,
+        ap (secondary.give-answer line buffer) (every ks e) ∙ there .1,
+      )

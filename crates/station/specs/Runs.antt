@@ -2,14 +2,14 @@
 use mathlib.Core.Path.{_≡_}
 use mathlib.Core.Bool.{cond}
 use mathlib.Core.List.{List, [], _∷_, _++_}
-use Prim.Native.Nat.{ℕ}
+use Prim.Native.Nat.{ℕ, _≤_}
 use lib.Dec.{eqb}
 use Rattle.packet.specs.declared.number.Number.the-variants.{Zero, One}
 use Rattle.packet.specs.Format.{Parts, parts, reading}
 use Rattle.packet.specs.Refusals.{Answer, refused, gave}
 use Rattle.primary.specs.Table.{collected}
 use Rattle.secondary.specs.Laws as deliveries
-use Rattle.secondary.specs.Station.{after-take, after-give}
+use Rattle.secondary.specs.Station.{take-answer, after-take, give-answer, after-give}
 use Rattle.station.specs.End.{End, limit, submission, arrival, timeout, change, left-by, set-by, with-primary, with-secondary}
 
 -- a message submitted, a burst that arrived, a timeout, a take into a place of so many bytes, a slip given back by line
@@ -67,3 +67,10 @@ module _ (c : ℕ) (check : List ℕ → List ℕ) where
   Leave-in-order e =
       (ks : List Call)
       → deliveries.given-all [] (asked-all ks e) (e .secondary) ++ after-all ks e .secondary .held ≡ deliveries.stored-all (asked-all ks e) (e .secondary)
+
+  -- a slip's buffer is out until it is given back: after any calls that do not give it back, take is refused with 22 and
+  -- the slip is taken back
+  abbrev pub Stays-out : ℕ → ℕ → End → Type 0
+  Stays-out line buffer e =
+      (ks : List Call) → deliveries.Spares line buffer (asked-all ks e)
+      → ((size : ℕ) → 96 ≤ size → take-answer size (after-all ks e .secondary) ≡ refused 22) × (give-answer line buffer (after-all ks e .secondary) ≡ gave tt)

@@ -1,13 +1,14 @@
 // Outcomes that are collected, and deliveries that are taken and given back.
 ghost use mathlib.Core.Path.{_≡_};
 ghost use lib.ListN.{length};
-ghost use Rattle.std.specs.Vec.{refused as where-refused};
+ghost use Rattle.std.specs.Vec.{made as where-made, refused as where-refused};
 ghost use Rattle.packet.specs.Refusals.{answer};
 ghost use Rattle.primary.specs.Rules.{oldest};
 ghost use Rattle.primary.specs.Table.{collected};
 ghost use Rattle.secondary.specs.Station.{taken, take-answer, after-take, place-after, given, give-answer, after-give, handed-back, slips-after};
 ghost use Rattle.station.specs.End.{with-primary, with-secondary};
 ghost use Rattle.station.specs.Models.{model};
+ghost use Rattle.station.specs.Runs.{Stays-out};
 use crate::end::End;
 use packet::checks::Check;
 use packet::refusal::Refusal;
@@ -30,6 +31,7 @@ impl<K: Check> End<K> {
         ensures after { λ _. ⌜ model (now (self .exit) .settings) (now (self .exit) .primary) (now (self .exit) .secondary) ≡ with-secondary (after-take (length (now (place .entry))) ((model (now (self .entry) .settings) (now (self .entry) .primary) (now (self .entry) .secondary)) .secondary)) (model (now (self .entry) .settings) (now (self .entry) .primary) (now (self .entry) .secondary)) ⌝ }
         ensures copied { λ _. ⌜ now (place .exit) ≡ place-after ((model (now (self .entry) .settings) (now (self .entry) .primary) (now (self .entry) .secondary)) .secondary) (now (place .entry)) ⌝ }
         ensures unchanged { λ r. ⌜ where-refused r (λ _. (now (self .exit) .settings ≡ now (self .entry) .settings) × (now (self .exit) .primary ≡ now (self .entry) .primary) × (now (self .exit) .secondary ≡ now (self .entry) .secondary)) ⌝ }
+        ensures out { λ r. ⌜ where-made r (λ x. Stays-out (K·Check .size) (K·Check .meaning) (x .1 .line) (x .1 .buffer) (model (now (self .exit) .settings) (now (self .exit) .primary) (now (self .exit) .secondary))) ⌝ }
     {
         self.secondary.take(place)
     }
