@@ -4,3 +4,4 @@ pub mod Models
 pub mod Reports
 pub mod Runs
 pub mod Valid
+pub mod Waits

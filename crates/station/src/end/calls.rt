@@ -18,6 +18,7 @@ ghost use Rattle.station.specs.End.{by-primary, by-secondary, answer-parts, ti
 ghost use Rattle.station.specs.Answerable.{Answerable};
 ghost use Rattle.station.specs.Models.{model};
 ghost use Rattle.station.specs.Reports.{told, telling};
+ghost use Rattle.station.specs.Waits.{In-time};
 use crate::end::End;
 use crate::report::Report;
 use packet::checks::Check;
@@ -145,6 +146,7 @@ impl<K: Check> End<K> {
         ensures after { λ _. ⌜ model (now (self .exit) .settings) (now (self .exit) .primary) (now (self .exit) .secondary) ≡ left-by (submission (model (now (self .entry) .settings) (now (self .entry) .primary) (now (self .entry) .secondary)) (now (message .entry))) (model (now (self .entry) .settings) (now (self .entry) .primary) (now (self .entry) .secondary)) ⌝ }
         ensures placed { λ _. ⌜ now (place .exit) ≡ placed-by (K·Check .meaning) (submission (model (now (self .entry) .settings) (now (self .entry) .primary) (now (self .entry) .secondary)) (now (message .entry))) (now (place .entry)) ⌝ }
         ensures unchanged { λ r. ⌜ where-refused r (λ _. (now (self .exit) .settings ≡ now (self .entry) .settings) × (now (self .exit) .primary ≡ now (self .entry) .primary) × (now (self .exit) .secondary ≡ now (self .entry) .secondary)) ⌝ }
+        ensures in_time { λ _. ⌜ In-time (K·Check .size) (K·Check .meaning) (model (now (self .exit) .settings) (now (self .exit) .primary) (now (self .exit) .secondary)) ⌝ }
     {
         self.hear(Event::Submission(message), place)
     }
@@ -154,6 +156,7 @@ impl<K: Check> End<K> {
         ensures value { λ r. ⌜ gave (told r) ≡ seen (telling (K·Check .meaning)) (timeout (model (now (self .entry) .settings) (now (self .entry) .primary) (now (self .entry) .secondary))) ⌝ }
         ensures after { λ _. ⌜ model (now (self .exit) .settings) (now (self .exit) .primary) (now (self .exit) .secondary) ≡ left-by (timeout (model (now (self .entry) .settings) (now (self .entry) .primary) (now (self .entry) .secondary))) (model (now (self .entry) .settings) (now (self .entry) .primary) (now (self .entry) .secondary)) ⌝ }
         ensures placed { λ _. ⌜ now (place .exit) ≡ placed-by (K·Check .meaning) (timeout (model (now (self .entry) .settings) (now (self .entry) .primary) (now (self .entry) .secondary))) (now (place .entry)) ⌝ }
+        ensures in_time { λ _. ⌜ In-time (K·Check .size) (K·Check .meaning) (model (now (self .exit) .settings) (now (self .exit) .primary) (now (self .exit) .secondary)) ⌝ }
     {
         match self.hear(Event::timeout(), place) {
             Ok(report) => report,
@@ -242,6 +245,7 @@ impl<K: Check> End<K> {
         ensures after { λ _. ⌜ model (now (self .exit) .settings) (now (self .exit) .primary) (now (self .exit) .secondary) ≡ left-by (arrival (K·Check .size) (K·Check .meaning) (model (now (self .entry) .settings) (now (self .entry) .primary) (now (self .entry) .secondary)) (now (burst .entry))) (model (now (self .entry) .settings) (now (self .entry) .primary) (now (self .entry) .secondary)) ⌝ }
         ensures placed { λ _. ⌜ now (place .exit) ≡ placed-by (K·Check .meaning) (arrival (K·Check .size) (K·Check .meaning) (model (now (self .entry) .settings) (now (self .entry) .primary) (now (self .entry) .secondary)) (now (burst .entry))) (now (place .entry)) ⌝ }
         ensures unchanged { λ r. ⌜ where-refused r (λ _. (now (self .exit) .settings ≡ now (self .entry) .settings) × (now (self .exit) .primary ≡ now (self .entry) .primary) × (now (self .exit) .secondary ≡ now (self .entry) .secondary)) ⌝ }
+        ensures in_time { λ _. ⌜ In-time (K·Check .size) (K·Check .meaning) (model (now (self .exit) .settings) (now (self .exit) .primary) (now (self .exit) .secondary)) ⌝ }
     {
         match read::<K>(burst) {
             Ok(packet) => self.dispatch(packet.letter, packet.field, place),
