@@ -10,12 +10,12 @@ use Rattle.medium.specs.Offered.{Offered, whole-if}
 use Rattle.medium.proofs.Exact.{offered}
 use Rattle.medium.proofs.Written.{is-carried}
 use Rattle.packing.specs.declared.packed.PackedMedium.{PackedMedium}
-use Rattle.packing.specs.Packed.{bytes, carries, fits, Holds, Packs-in}
+use Rattle.packing.specs.Packed.{bytes, carries, fits, Kept, Packs-in}
 use Rattle.packing.specs.Rowed.{framed, unpacked}
 use Rattle.packing.proofs.Rowed.{unpacked-if}
 
 pub packed-in : (m m′ : PackedMedium) (b : List ℕ) (t : Bool) → Carried b → t ≡ fits m b → bytes m′ ≡ cond t (bytes m ++ framed b) (bytes m)
-    → Holds m m′ → Packs-in m b (whole-if t) m′
+    → Kept m m′ → Packs-in m b (whole-if t) m′
 packed-in m m′ b t k e q h =
     let s : t ≡ (carried b && fits m b) = e ∙ ap (λ c. c && fits m b) (sym (is-carried b (k .0) (k .1))) in
     record {

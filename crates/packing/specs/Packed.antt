@@ -25,7 +25,7 @@ abbrev pub fits : PackedMedium → List ℕ → Bool
 fits m b = leb (length (bytes m) + (2 + length b)) (places (m .ring))
 
 -- what all calls leave as it is
-pub record Holds (m m′ : PackedMedium) : Type 0 where
+pub record Kept (m m′ : PackedMedium) : Type 0 where
   pub places : places (m′ .ring) ≡ places (m .ring)
   pub beyond : beyond (m′ .ring) ≡ beyond (m .ring)
 
@@ -34,4 +34,4 @@ pub record Packs-in (m : PackedMedium) (b : List ℕ) (r : Offer) (m′ : Packed
   pub answer : r ≡ whole-if (carried b && fits m b)
   pub bursts : carries m′ ≡ cond (carried b && fits m b) (carries m ++ b ∷ []) (carries m)
   pub bytes : bytes m′ ≡ cond (carried b && fits m b) (bytes m ++ framed b) (bytes m)
-  pub kept : Holds m m′
+  pub kept : Kept m m′

@@ -4,7 +4,7 @@ ghost use mathlib.Core.List.{[]};
 ghost use Prim.Native.Nat.{min};
 ghost use lib.ListN.{length, drop};
 ghost use Rattle.ring.specs.Ring.{places, beyond, memory};
-ghost use Rattle.packing.specs.Packed.{carries, Packs-in, Holds};
+ghost use Rattle.packing.specs.Packed.{carries, Packs-in, Kept};
 use crate::packed::PackedMedium;
 use crate::rows;
 use medium::LONGEST;
@@ -45,7 +45,7 @@ pub impl<'a> Medium for PackedMedium<'a> as PackedAsMedium {
 
     ghost offers = { Packs-in };
 
-    ghost takes = { Holds };
+    ghost takes = { Kept };
 
     fn offer(&mut self, burst: &[u8]) -> Offer {
         if !is_carried(burst) {
