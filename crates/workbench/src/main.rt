@@ -11,6 +11,7 @@ use medium::burst::Burst;
 use medium::queue::QUEUE_LIMIT;
 use packing::packed::PackedMedium;
 use packing::packed_medium::PACKED_LIMIT;
+use std::alloc::AllocError;
 use std::alloc::Global;
 use std::io;
 use std::io::BufRead;
@@ -22,53 +23,43 @@ fn main(rt: LibcRuntime) -> io::Result<()> {
     let heap = rt.alloc();
     let mut input = BufReader::new(rt.stdin());
     let mut output = BufWriter::new(rt.stdout());
-    let mut m_queue = vec![in heap; Burst::blank(); QUEUE_LIMIT]?;
-    let mut m_bytes = vec![in heap; 0u8; PACKED_LIMIT]?;
-    let mut m_noisy = vec![in heap; Burst::blank(); QUEUE_LIMIT]?;
-    let mut n_queue = vec![in heap; Burst::blank(); QUEUE_LIMIT]?;
-    let mut n_bytes = vec![in heap; 0u8; PACKED_LIMIT]?;
-    let mut n_noisy = vec![in heap; Burst::blank(); QUEUE_LIMIT]?;
-    answer_script(
-        heap,
-        &mut input,
-        &mut output,
-        &mut m_queue,
-        &mut m_bytes,
-        &mut m_noisy,
-        &mut n_queue,
-        &mut n_bytes,
-        &mut n_noisy,
-    )?;
+    answer_script(heap, &mut input, &mut output)?;
     output.flush()
 }
 
-// Answers the script with a medium for each name in the memory that is lent.
 fn answer_script<'a, R: BufRead, W: Write>(
     heap: Global,
-    input: &mut R,
-    output: &mut W,
-    m_queue: &'a mut [Burst],
-    m_bytes: &'a mut [u8],
-    m_noisy: &'a mut [Burst],
-    n_queue: &'a mut [Burst],
-    n_bytes: &'a mut [u8],
-    n_noisy: &'a mut [Burst],
+    input: &'a mut R,
+    output: &'a mut W,
 ) -> io::Result<()> {
-    let mut m_packed = PackedMedium::over(m_bytes);
-    let mut n_packed = PackedMedium::over(n_bytes);
-    let bench = Workbench {
-        m: NamedMedium::over(m_queue, &mut m_packed, m_noisy),
-        n: NamedMedium::over(n_queue, &mut n_packed, n_noisy),
-    };
-    answer_lines(heap, input, output, bench)
+    let mut m_packed = PackedMedium::over(bytes(heap)?);
+    let mut n_packed = PackedMedium::over(bytes(heap)?);
+    answer_lines(heap, input, output, &mut m_packed, &mut n_packed)
+}
+
+// Memory for a packed medium, which serves as long as the program runs.
+fn bytes<'a>(heap: Global) -> Result<&'a mut [u8], AllocError> {
+    let zeros = Box::new(heap, [0u8; PACKED_LIMIT])?;
+    Ok(Box::leak(zeros))
+}
+
+// Memory for a queue, which serves as long as the program runs.
+fn bursts<'a>(heap: Global) -> Result<&'a mut [Burst], AllocError> {
+    let blank = Box::new(heap, [Burst::blank(); QUEUE_LIMIT])?;
+    Ok(Box::leak(blank))
 }
 
 fn answer_lines<'a, 'p, R: BufRead, W: Write>(
     heap: Global,
     input: &mut R,
     output: &mut W,
-    mut bench: Workbench<'a, 'p>,
+    m_packed: &'p mut PackedMedium<'a>,
+    n_packed: &'p mut PackedMedium<'a>,
 ) -> io::Result<()> {
+    let mut bench = Workbench {
+        m: NamedMedium::over(bursts(heap)?, m_packed, bursts(heap)?),
+        n: NamedMedium::over(bursts(heap)?, n_packed, bursts(heap)?),
+    };
     let mut line = Vec::new(heap);
     for _ in 0..u64::MAX {
         match take_line(heap, input, &mut line)? {
