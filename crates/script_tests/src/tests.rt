@@ -1,5 +1,4 @@
 // What is printed for single lines; the expected answers are those of docs/WORKBENCH.md.
-use bench::run::run_line;
 use script::command::parse;
 use std::test::*;
 
@@ -33,14 +32,8 @@ fn the_first_wrong_word_decides() -> Result<(), Fail> {
 }
 
 #[test]
-fn lines_are_answered(rt: LibcRuntime) -> Result<(), Fail> {
-    let heap = rt.alloc();
-    let enq = run_line(heap, b"packet read sum 024503C8\n")?;
-    check(enq.as_str() == "letter=E place=2 length=0 field=-\n")?;
-    let text = run_line(heap, b" packet  write xor 30 'OK")?;
-    check(text.as_str() == "length=6 burst=02304F4B03B7\n")?;
-    let short = run_line(heap, b"packet write sum 45 - 3")?;
-    check(short.as_str() == "refused 29\n")?;
-    let comment = run_line(heap, b"# packet read")?;
-    check(comment.as_str() == "")
+fn medium_faults_are_told(_rt: LibcRuntime) -> Result<(), Fail> {
+    check_eq(fault("medium x take"), "NAME is m or n")?;
+    check_eq(fault("medium m mend"), "unknown command")?;
+    check_eq(fault("medium n count 0"), "too many words")
 }
