@@ -1,4 +1,0 @@
-pub mod Orders
-pub mod Outs
-pub mod Rings
-pub mod Turns

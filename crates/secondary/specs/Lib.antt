@@ -1,5 +1,0 @@
-pub mod Buffers
-pub mod Held
-pub mod Laws
-pub mod Station
-pub mod Worked

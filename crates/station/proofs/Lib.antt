@@ -1,4 +1,0 @@
-pub mod Sending
-pub mod Sendable
-pub mod Orders
-pub mod Waiting
