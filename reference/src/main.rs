@@ -15,7 +15,8 @@ use std::process::ExitCode;
 
 const USAGE: &str = "usage: reference run
        reference generate packets
-       reference generate media";
+       reference generate media
+       reference generate workbench";
 
 fn main() -> ExitCode {
     let arguments: Vec<_> = env::args_os().skip(1).collect();
@@ -25,6 +26,7 @@ fn main() -> ExitCode {
         [Some("run")] => run::run(io::stdin().lock(), &mut output),
         [Some("generate"), Some("packets")] => output.write_all(&generate::packets()),
         [Some("generate"), Some("media")] => output.write_all(&generate::media()),
+        [Some("generate"), Some("workbench")] => output.write_all(&generate::workbench()),
         _ => {
             eprintln!("{USAGE}");
             return ExitCode::from(2);
