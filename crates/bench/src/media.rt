@@ -3,6 +3,7 @@ ghost use mathlib.Core.Path.{_≡_};
 ghost use Prim.Native.Nat.{_≤_};
 ghost use lib.ListN.{length, drop};
 ghost use Rattle.std.specs.Options.{mapped, valueOr};
+ghost use Rattle.std.specs.declared.option.Option.the-variants.{None};
 ghost use Rattle.medium.specs.Bursts.{first, some-letter};
 ghost use Rattle.medium.specs.Letters.{command, answer};
 ghost use Rattle.bench.specs.Media.{under-way, offer-answer, taken-to, Starts};
@@ -49,7 +50,9 @@ impl<'a, 'p> NamedMedium<'a, 'p> {
         queue: &'a mut [Burst],
         packed: &'p mut PackedMedium<'a>,
         noisy: &'a mut [Burst],
-    ) -> Self {
+    ) -> Self
+        ensures { λ r. ⌜ under-way r ≡ None ⌝ }
+    {
         NamedMedium {
             made: Made::Nothing,
             queue: LossyMedium::over(QueueMedium::over(queue), 0),
