@@ -2,6 +2,7 @@
 //! written from docs/PROTOCOL.md and docs/WORKBENCH.md alone.
 
 mod generate;
+mod medium;
 mod packet;
 mod random;
 mod refusal;

@@ -1,5 +1,6 @@
 //! Scripts: lines, words, arguments and errors (WORKBENCH.md).
 
+use crate::medium::{Room, Spec};
 use crate::packet::Kind;
 use crate::refusal::Refusal;
 use std::borrow::Cow;
@@ -15,7 +16,10 @@ pub enum Error {
     Letter,
     Bytes,
     Size,
+    MediumName,
+    Spec,
     TooManyWords,
+    NoMedium,
     OutOfMemory,
 }
 
@@ -28,7 +32,13 @@ impl fmt::Display for Error {
             Error::Letter => "LETTER is one byte in hexadecimal",
             Error::Bytes => "BYTES are pairs of hexadecimal digits",
             Error::Size => "SIZE is a number from 0 to 65536",
+            Error::MediumName => "NAME is m or n",
+            Error::Spec => {
+                "SPEC is queue:PLACES, packed:BYTES or noisy:PLACES:PATTERN, \
+                 or one of these after lossy:PATTERN/"
+            }
             Error::TooManyWords => "too many words",
+            Error::NoMedium => "no medium of that name is made",
             Error::OutOfMemory => "out of memory",
         })
     }
@@ -191,7 +201,22 @@ impl<'a> Words<'a> {
 
     /// SIZE, which may be left out.
     pub fn size(&mut self) -> Result<Option<usize>, Error> {
+        let size = |word| number(word, 65536).ok_or(Error::Size);
         self.next_word().map(size).transpose()
+    }
+
+    /// The NAME of a medium, as a number from 0.
+    pub fn medium_name(&mut self) -> Result<usize, Error> {
+        match self.due()? {
+            b"m" => Ok(0),
+            b"n" => Ok(1),
+            _ => Err(Error::MediumName),
+        }
+    }
+
+    /// SPEC.
+    pub fn spec(&mut self) -> Result<Spec, Error> {
+        spec(self.due()?).ok_or(Error::Spec)
     }
 
     /// Makes sure that no word is left over.
@@ -226,17 +251,44 @@ fn pair(high: u8, low: u8) -> Option<u8> {
     u8::try_from(digit(high)? * 16 + digit(low)?).ok()
 }
 
-fn size(word: &[u8]) -> Result<usize, Error> {
-    const MOST: usize = 65536;
-    if !word.iter().all(u8::is_ascii_digit) {
-        return Err(Error::Size);
+/// One or more decimal digits, of a number from 0 to `most`.
+fn number(word: &[u8], most: usize) -> Option<usize> {
+    if word.is_empty() || !word.iter().all(u8::is_ascii_digit) {
+        return None;
     }
     // A number that grows too large stays so, however many digits follow.
     let digits = word.iter().map(|digit| usize::from(digit - b'0'));
-    let number = digits.fold(0, |number, digit| (number * 10 + digit).min(MOST + 1));
-    Some(number)
-        .filter(|&number| number <= MOST)
-        .ok_or(Error::Size)
+    let number = digits.fold(0, |number, digit| (number * 10 + digit).min(most + 1));
+    Some(number).filter(|&number| number <= most)
+}
+
+/// PATTERN: one to eight hexadecimal digits.
+fn pattern(word: &[u8]) -> Option<u32> {
+    if word.is_empty() || word.len() > 8 {
+        return None;
+    }
+    word.iter().try_fold(0, |pattern, &digit| {
+        Some(pattern << 4 | char::from(digit).to_digit(16)?)
+    })
+}
+
+fn spec(word: &[u8]) -> Option<Spec> {
+    let (loss, word) = match word.strip_prefix(b"lossy:") {
+        Some(rest) => {
+            let slash = rest.iter().position(|&byte| byte == b'/')?;
+            (Some(pattern(&rest[..slash])?), &rest[slash + 1..])
+        }
+        None => (None, word),
+    };
+    let places = |word| number(word, 4096).map(Room::Places);
+    let parts: Vec<&[u8]> = word.split(|&byte| byte == b':').collect();
+    let (room, noise) = match parts[..] {
+        [b"queue", count] => (places(count)?, None),
+        [b"packed", count] => (Room::Bytes(number(count, 65536)?), None),
+        [b"noisy", count, bits] => (places(count)?, Some(pattern(bits)?)),
+        _ => return None,
+    };
+    Some(Spec { room, noise, loss })
 }
 
 /// A place to lend to a call, filled with EE.
@@ -352,6 +404,77 @@ mod tests {
         ];
         for word in wrong {
             assert_eq!(Words::new(word).size(), Err(Error::Size));
+        }
+    }
+
+    #[test]
+    fn a_medium_has_one_of_two_names() {
+        assert_eq!(Words::new(b"m").medium_name(), Ok(0));
+        assert_eq!(Words::new(b"n").medium_name(), Ok(1));
+        for wrong in [&b"M"[..], b"a", b"mn", b"m\r", b"0", b"-"] {
+            assert_eq!(Words::new(wrong).medium_name(), Err(Error::MediumName));
+        }
+    }
+
+    #[test]
+    fn a_spec_is_one_of_three_kinds_or_lossy_over_one() {
+        let plain = |room| Spec {
+            room,
+            noise: None,
+            loss: None,
+        };
+        let noisy = |places, bits| Spec {
+            noise: Some(bits),
+            ..plain(Room::Places(places))
+        };
+        let lossy = |bits, below| Spec {
+            loss: Some(bits),
+            ..below
+        };
+        let specs: [(&[u8], Spec); 8] = [
+            (b"queue:0", plain(Room::Places(0))),
+            (b"queue:004096", plain(Room::Places(4096))),
+            (b"packed:65536", plain(Room::Bytes(65536))),
+            (b"noisy:2:1", noisy(2, 1)),
+            (b"noisy:4096:fFfFfFfF", noisy(4096, !0)),
+            (b"lossy:0/queue:1", lossy(0, plain(Room::Places(1)))),
+            (b"lossy:0000000a/packed:3", lossy(10, plain(Room::Bytes(3)))),
+            (b"lossy:80000001/noisy:4:2", lossy(0x8000_0001, noisy(4, 2))),
+        ];
+        for (word, spec) in specs {
+            assert_eq!(Words::new(word).spec(), Ok(spec));
+        }
+        for wrong in [
+            &b"queue"[..],
+            b"queue:",
+            b"queue:4097",
+            b"queue:+1",
+            b"queue:1:",
+            b"queue:1:1",
+            b":1",
+            b"Queue:1",
+            b"packed:65537",
+            b"packed:1:0",
+            b"noisy:1",
+            b"noisy:1:",
+            b"noisy::1",
+            b"noisy:4097:1",
+            b"noisy:1:000000001",
+            b"noisy:1:G",
+            b"noisy:1:+1",
+            b"noisy:1:1:1",
+            b"lossy:1",
+            b"lossy:1/",
+            b"lossy:/queue:1",
+            b"lossy:100000000/queue:1",
+            b"lossy:1/lossy:1/queue:1",
+            b"lossy:1/queue:1/",
+            b"lossy:1//queue:1",
+            b"lossy/queue:1",
+            b"'queue:1",
+            b"queue:1\r",
+        ] {
+            assert_eq!(Words::new(wrong).spec(), Err(Error::Spec));
         }
     }
 
