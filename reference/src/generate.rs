@@ -1,12 +1,22 @@
 //! Generated scripts. The same bytes come out on every run and every machine.
 
+mod media;
 mod packets;
 mod words;
 
-use crate::packet::Kind;
+use crate::packet::{assemble, Kind};
 use crate::random::Random;
+use crate::run::Bench;
 
+pub use media::media;
 pub use packets::packets;
+
+const LETTERS: [u8; 6] = *b"E01ABR";
+
+/// Every byte that may stand in a line.
+fn line_bytes() -> impl Iterator<Item = u8> {
+    (0..=0xFF).filter(|&byte| byte != b'\n')
+}
 
 /// How a generated line writes hexadecimal digits.
 #[derive(Clone, Copy)]
@@ -16,10 +26,14 @@ enum Case {
     Mixed,
 }
 
-/// A script in the making.
+/// A script in the making. Each of its lines is carried out at once, so that the
+/// next ones can go by its answer.
 struct Script {
     text: Vec<u8>,
     random: Random,
+    bench: Bench,
+    /// The answer to the last line, without its line end.
+    answer: String,
 }
 
 impl Script {
@@ -27,7 +41,21 @@ impl Script {
         Script {
             text: Vec::new(),
             random: Random::new(),
+            bench: Bench::default(),
+            answer: String::new(),
         }
+    }
+
+    /// The text of all sections, and the line after them without a line end.
+    fn of(sections: &[fn(&mut Script)], last: &str) -> Vec<u8> {
+        let mut script = Script::new();
+        for section in sections {
+            section(&mut script);
+        }
+        script.section("a last line without a line end");
+        script.line(last);
+        script.text.pop();
+        script.text
     }
 
     /// Begins a section with a comment on what follows.
@@ -40,6 +68,11 @@ impl Script {
         assert!(!line.contains(&b'\n'), "a line ends at its first 0A");
         self.text.extend_from_slice(line);
         self.text.push(b'\n');
+        let mut answer = Vec::new();
+        let done = self.bench.run(line, &mut answer);
+        done.expect("memory takes what is printed");
+        let answer = String::from_utf8(answer).expect("answers are text");
+        self.answer = answer.trim_end_matches('\n').to_string();
     }
 
     /// A line of these parts, one after the other.
@@ -105,6 +138,57 @@ impl Script {
         let choices = usize::from(high - low) + 1;
         (0..length)
             .map(|_| low + self.random.below(choices) as u8)
+            .collect()
+    }
+
+    fn message(&mut self, length: usize) -> Vec<u8> {
+        self.run_of(length, 0x20, 0x7E)
+    }
+
+    /// A right field of the letter, of at most `longest` bytes.
+    fn field(&mut self, letter: u8, longest: usize) -> Vec<u8> {
+        match letter {
+            b'0' | b'1' => {
+                let length = 1 + self.random.below(longest);
+                self.message(length)
+            }
+            b'A' | b'B' => self.run_of(1, 0x30, 0x38),
+            _ => Vec::new(),
+        }
+    }
+
+    /// A random packet with a field of at most `longest` bytes.
+    fn packet(&mut self, kind: Kind, longest: usize) -> Vec<u8> {
+        let letter = *self.random.pick(&LETTERS);
+        let field = self.field(letter, longest);
+        assemble(kind, letter, &field)
+    }
+
+    /// Another byte than this one.
+    fn other(&mut self, byte: u8) -> u8 {
+        byte.wrapping_add(1 + self.random.below(255) as u8)
+    }
+}
+
+#[cfg(test)]
+mod tests {
+    use crate::run::run;
+
+    /// The command lines of a script, each with its answer.
+    pub fn answers(script: &[u8]) -> Vec<(Vec<u8>, String)> {
+        let answered =
+            |line: &&[u8]| !line.starts_with(b"#") && line.iter().any(|&byte| byte != b' ');
+        let lines = script.split(|&byte| byte == b'\n').filter(answered);
+        let commands: Vec<&[u8]> = lines.collect();
+        let mut output = Vec::new();
+        run(script, &mut output).unwrap();
+        let output = String::from_utf8(output).unwrap();
+        assert!(output.ends_with('\n'));
+        assert_eq!(commands.len(), output.lines().count());
+        commands
+            .into_iter()
+            .zip(output.lines())
+            .map(|(command, answer)| (command.to_vec(), answer.to_string()))
             .collect()
     }
 }

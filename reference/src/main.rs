@@ -14,7 +14,8 @@ use std::io::{self, BufWriter, Write};
 use std::process::ExitCode;
 
 const USAGE: &str = "usage: reference run
-       reference generate packets";
+       reference generate packets
+       reference generate media";
 
 fn main() -> ExitCode {
     let arguments: Vec<_> = env::args_os().skip(1).collect();
@@ -23,6 +24,7 @@ fn main() -> ExitCode {
     let done = match arguments[..] {
         [Some("run")] => run::run(io::stdin().lock(), &mut output),
         [Some("generate"), Some("packets")] => output.write_all(&generate::packets()),
+        [Some("generate"), Some("media")] => output.write_all(&generate::media()),
         _ => {
             eprintln!("{USAGE}");
             return ExitCode::from(2);

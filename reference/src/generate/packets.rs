@@ -1,20 +1,13 @@
 //! The script of packet commands.
 
-use super::{words, Case, Script};
+use super::{line_bytes, words, Case, Script, LETTERS};
 use crate::packet::{assemble, Kind, ETX, LONGEST, STX};
 use std::iter;
-
-const LETTERS: [u8; 6] = *b"E01ABR";
 
 /// Bytes at the edges of the fields' ranges, and the most telling others.
 const EDGES: [u8; 15] = [
     0x00, 0x02, 0x03, 0x0A, 0x0D, 0x1F, 0x20, 0x2F, 0x30, 0x38, 0x39, 0x7E, 0x7F, 0x80, 0xFF,
 ];
-
-/// Every byte that may stand in a line.
-fn line_bytes() -> impl Iterator<Item = u8> {
-    (0..=0xFF).filter(|&byte| byte != b'\n')
-}
 
 /// The kinds in turn.
 fn turn(number: impl Into<usize>) -> Kind {
@@ -53,14 +46,7 @@ pub fn packets() -> Vec<u8> {
         random_packets,
         random_lines,
     ];
-    let mut script = Script::new();
-    for section in sections {
-        section(&mut script);
-    }
-    script.section("a last line without a line end");
-    script.line("packet read sum 024503C8");
-    script.text.pop();
-    script.text
+    Script::of(&sections, "packet read sum 024503C8")
 }
 
 /// Lines that several sections need.
@@ -93,34 +79,6 @@ impl Script {
         let letter = self.bytes(Case::Upper, &[letter]);
         let text = [b"'", field].concat();
         self.words(&[b"packet write", kind.name().as_bytes(), &letter, &text]);
-    }
-
-    fn message(&mut self, length: usize) -> Vec<u8> {
-        self.run_of(length, 0x20, 0x7E)
-    }
-
-    /// A right field of the letter, of at most `longest` bytes.
-    fn field(&mut self, letter: u8, longest: usize) -> Vec<u8> {
-        match letter {
-            b'0' | b'1' => {
-                let length = 1 + self.random.below(longest);
-                self.message(length)
-            }
-            b'A' | b'B' => self.run_of(1, 0x30, 0x38),
-            _ => Vec::new(),
-        }
-    }
-
-    /// A random packet with a field of at most `longest` bytes.
-    fn packet(&mut self, kind: Kind, longest: usize) -> Vec<u8> {
-        let letter = *self.random.pick(&LETTERS);
-        let field = self.field(letter, longest);
-        assemble(kind, letter, &field)
-    }
-
-    /// Another byte than this one.
-    fn other(&mut self, byte: u8) -> u8 {
-        byte.wrapping_add(1 + self.random.below(255) as u8)
     }
 }
 
@@ -997,12 +955,8 @@ fn random_lines(script: &mut Script) {
 #[cfg(test)]
 mod tests {
     use super::*;
-    use crate::run::run;
+    use crate::generate::tests::answers;
     use std::collections::BTreeMap;
-
-    fn answered(line: &[u8]) -> bool {
-        line.first() != Some(&b'#') && line.iter().any(|&byte| byte != b' ')
-    }
 
     #[test]
     fn the_script_is_whole() {
@@ -1010,25 +964,17 @@ mod tests {
         assert_eq!(script, packets());
         assert!(script.len() < 1_500_000);
         assert!(script.ends_with(b"\npacket read sum 024503C8"));
-        let lines = || script.split(|&byte| byte == b'\n');
-        let commands = lines().filter(|line| answered(line));
-        assert!(commands.count() >= 2_500);
-        assert_eq!(lines().filter(|line| line.len() > 100_000).count(), 2);
+        assert!(answers(&script).len() >= 2_500);
+        let lines = script.split(|&byte| byte == b'\n');
+        assert_eq!(lines.filter(|line| line.len() > 100_000).count(), 2);
     }
 
     #[test]
     fn every_line_is_answered_and_every_answer_occurs() {
-        let script = packets();
-        let mut output = Vec::new();
-        run(&script[..], &mut output).unwrap();
-        let output = String::from_utf8(output).unwrap();
-        let lines = script.split(|&byte| byte == b'\n');
-        let commands: Vec<&[u8]> = lines.filter(|line| answered(line)).collect();
-        assert_eq!(commands.len(), output.lines().count());
-
+        let answers = answers(&packets());
         // By command and answer, packets being counted whatever their bytes.
         let mut counts: BTreeMap<(bool, &str), usize> = BTreeMap::new();
-        for (command, answer) in commands.into_iter().zip(output.lines()) {
+        for (command, answer) in &answers {
             let write = command.windows(6).any(|word| word == b"write ");
             let answer = match answer.split_once('=') {
                 Some((name, _)) => name,
@@ -1036,7 +982,8 @@ mod tests {
             };
             *counts.entry((write, answer)).or_default() += 1;
         }
-        assert!(output.ends_with("letter=E place=2 length=0 field=-\n"));
+        let (_, last) = answers.last().unwrap();
+        assert_eq!(last, "letter=E place=2 length=0 field=-");
 
         for answer in [
             "letter",

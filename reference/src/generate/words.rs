@@ -69,3 +69,65 @@ pub const LEFT_OVER: &str = "\
 pub const LIKELY: &str = "\
     packet read write sum xor 45 30 41 - 37 4F4B 4f4b 024503C8 024503c6 104 5 65537 'OK \
     ' 0 \t \u{ff}";
+
+/// Words that are no NAME of a medium.
+pub const MEDIUM_NAME: &str = "\
+    x M N a b mm nn mn m, m: m/ m' 'm \"m\" -m m- - -- ' 0 1 m0 make offer medium medium1 \
+    m\t \tm m\r n\r m\0 \x00n \u{ff} \u{6d}\u{300} \u{ff4d} NAME queue:1 m,n m|n # #m";
+
+/// Words that are no third word after `medium`.
+pub const MEDIUM_THIRD: &str = "\
+    x Make MAKE mak makes ake Offer OFFER offe offers Take TAKE tak takes taken Count \
+    COUNT coun counts Holds HOLDS hold holdss 'make make' make: make, \tmake make\t make\r \
+    offer\r take\r count\r holds\r take\0 \0count hol\0ds - -- ' # #take m n medium packet \
+    queue:1 read write drop put get free list \u{ff} \u{ff54}ake";
+
+/// Numbers for PLACES and for the BYTES of a medium, right and wrong.
+pub const ROOM: &str = "\
+    0 1 2 3 9 00 01 007 10 106 255 256 300 4095 4096 04096 00000000000000000000004096 \
+    4097 04097 4106 4196 5000 8192 9999 32768 40960 65535 65536 065536 \
+    000000000000000000000000065536 65537 065537 65546 66000 69632 99999 100000 131072 \
+    655360 4294967295 4294967296 4294967297 4294971392 18446744073709551615 \
+    18446744073709551616 18446744073709551617 18446744073709555712 \
+    340282366920938463463374607431768211456 340282366920938463463374607431768211457 +1 \
+    -1 +0 -0 - -- ' '1 1' 1.0 1. .1 1e1 0x1 1h 0b1 1_0 1,0 I l O 1\r \r1 1\t \t1 \t \0 1\0 \
+    \x001 \u{ff} 1\u{a0} \u{661} \u{ff11} \u{b2} PLACES BYTES [1] 1/ /1 1: :1 : / # a A F f \
+    1a a1 1;";
+
+/// Words for PATTERN, right and wrong.
+pub const PATTERN: &str = "\
+    0 1 2 3 8 9 a f A F aF 00 01 10 0F f0 100 00000000 00000001 00000002 80000000 80000001 \
+    7FFFFFFF FFFFFFFE FFFFFFFF ffffffff FfFfFfFf deadBEEF 55555555 aaaaaaaa AAAAAAAA \
+    0000001 8000000 12345678 9abcdef0 000000000 000000001 080000000 100000000 FFFFFFFFF \
+    0FFFFFFFF 123456789 0000000000000001 FFFFFFFFFFFFFFFF 10000000000000001 g G 1g g1 0x1 \
+    0X1 x1 1h $1 #1 # +1 -1 +0 -0 - -- ' '1 1' 1.0 1. .1 1_0 1,0 1: :1 : 1/ / /1 1@ @ ` 1` \
+    1\r \r1 1\t \t1 \t \r \0 1\0 \x001 1\u{a0} \u{ff} \u{661} \u{ff11} PATTERN [1] 1;";
+
+/// Words that are no SPEC, whatever stands for its numbers.
+pub const SPEC: &str = "\
+    x - -- ' : :: / :/ queue packed noisy lossy SPEC queue: packed: noisy: noisy:: lossy: \
+    lossy:/ lossy:1 lossy:1/ lossy:/queue:1 lossy/queue:1 lossy:1queue:1 lossy:1:queue:1 \
+    lossy:1//queue:1 lossy:1/queue lossy:1/queue: lossy:1/packed: lossy:1/noisy:1 \
+    lossy:1/noisy:1: lossy:1/noisy::1 lossy:1/noisy lossy:1/1 lossy:1/:1 lossy:1/x \
+    lossy:1/lossy:1/queue:1 lossy:1/lossy:1 lossy:1/lossy:1/ lossy:1/lossy:1/noisy:1:1 \
+    lossy:1:1/queue:1 lossy:1/1/queue:1 lossy:1/queue:1/ lossy:1/queue:1/queue:1 \
+    lossy:1/queue:1: lossy:1/queue:1:1 lossy:1/packed:1:1 lossy:1/noisy:1:1:1 \
+    lossy:1/noisy:1:1/ lossy:1/noisy:1:1/queue:1 /lossy:1/queue:1 :lossy:1/queue:1 \
+    Lossy:1/queue:1 LOSSY:1/queue:1 loss:1/queue:1 lossy1/queue:1 lossy:1\\queue:1 \
+    lossy:1/Queue:1 queue:1/ queue:1: queue:1:1 queue:1:1:1 queue::1 queue/1 queue1 \
+    queue-1 queue=1 queue;1 :queue:1 Queue:1 QUEUE:1 queues:1 queu:1 ueue:1 'queue:1 \
+    queue:1' \"queue:1\" queue:'1 queue:1, queue:1,noisy:1:1 queue:1/noisy:1:1 \
+    queue:1/lossy:1 queue:1/lossy:1/ queue:- queue:x queue:F packed:1/ packed:1: packed:1:1 \
+    packed:F packed::1 packed1 Packed:1 PACKED:1 pack:1 packet:1 packets:1 'packed:1 \
+    noisy:1 noisy:1: noisy::1 noisy:1::1 noisy:1:1: noisy:1:1:1 noisy:1/1 noisy:1:1/ \
+    noisy:1:1/queue:1 noisy:F:1 noisy:1:G noisy:1,1 noisy11 noisy1:1 Noisy:1:1 NOISY:1:1 \
+    noise:1:1 'noisy:1:1 1 0 1:1 1:queue queue\t:1 queue:\t1 queue:1\t queue:1\r queue:1\0 \
+    packed:1\r noisy:1:1\r noisy:1\r:1 noisy\0:1:1 lossy:1\r/queue:1 lossy:1/queue:1\r \
+    lossy:1/\rqueue:1 lossy:1/\0queue:1 \u{ff}queue:1 queue\u{ff1a}1 queue:1\u{a0} \
+    queue:1\u{2f}\u{2f} # #queue:1 queue:1#";
+
+/// Words that medium commands are made of, and some others.
+pub const MEDIUM_LIKELY: &str = "\
+    medium m n make offer take count holds queue:1 queue:0 packed:9 noisy:2:5 \
+    lossy:2/queue:2 lossy:80000000/packed:12 lossy:1 0245 024503c8 - 'OK ' 00 0 4096 \t \
+    \u{ff}";
