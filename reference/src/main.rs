@@ -1,6 +1,7 @@
 //! A second, independent implementation of the protocol and its workbench,
 //! written from docs/PROTOCOL.md and docs/WORKBENCH.md alone.
 
+mod end;
 mod generate;
 mod medium;
 mod packet;
@@ -8,6 +9,7 @@ mod random;
 mod refusal;
 mod run;
 mod script;
+mod settings;
 
 use std::env;
 use std::io::{self, BufWriter, Write};
