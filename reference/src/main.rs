@@ -17,7 +17,8 @@ use std::process::ExitCode;
 
 const USAGE: &str = "usage: reference run
        reference generate packets
-       reference generate media";
+       reference generate media
+       reference generate stations";
 
 fn main() -> ExitCode {
     let arguments: Vec<_> = env::args_os().skip(1).collect();
@@ -27,6 +28,7 @@ fn main() -> ExitCode {
         [Some("run")] => run::run(io::stdin().lock(), &mut output),
         [Some("generate"), Some("packets")] => output.write_all(&generate::packets()),
         [Some("generate"), Some("media")] => output.write_all(&generate::media()),
+        [Some("generate"), Some("stations")] => output.write_all(&generate::stations()),
         _ => {
             eprintln!("{USAGE}");
             return ExitCode::from(2);
