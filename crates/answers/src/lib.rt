@@ -1,3 +1,5 @@
 // What several subjects of a workbench script read and print alike.
+#![tactic(auto)]
+
 pub mod print;
 pub mod values;

@@ -1,4 +1,6 @@
 // The two ends of a workbench, with the slips that it keeps.
+#![tactic(auto)]
+
 mod calls;
 pub mod ends;
 pub mod named;

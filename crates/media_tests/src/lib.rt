@@ -1,4 +1,6 @@
 // Rings and media on examples.
+#![tactic(auto)]
+
 #[cfg(test)]
 mod tests {
     use medium::Medium;

@@ -1,4 +1,6 @@
 // A carrier of bursts in one direction: what every medium means, and the plainest one, a queue.
+#![tactic(auto)]
+
 ghost use Rattle.std.specs.Prelude.{◌≡◌, ℕ, ◌≤◌, List, [], ◌++◌, length, drop};
 ghost use Rattle.std.specs.List.{AllByRecursion as All};
 ghost use Rattle.medium.specs.declared.offer.Offer.{Offer as Answer};

@@ -1,4 +1,6 @@
 // ALC/FD packets: the check kinds, the reader and the writer.
+#![tactic(auto)]
+
 pub mod checks;
 pub mod letter;
 pub mod number;

@@ -52,15 +52,15 @@ impl<'a> Packet<'a> {
 
 // Reads a burst, or refuses it with 1 to 7.
 pub fn read<K: Check>(burst: &[u8]) -> Result<Packet<'_>, Refusal>
-    ensures value { answer told result ≡ reading size meaning burst.now }
-    ensures as_written { ReadAsWritten size meaning burst.now (answer told result) }
-    ensures altered { AlteredRefused size meaning burst.now (answer told result) }
+    ensures value { answer told result ≡ reading K.size K.meaning burst.now }
+    ensures as_written { ReadAsWritten K.size K.meaning burst.now (answer told result) }
+    ensures altered { AlteredRefused K.size K.meaning burst.now (answer told result) }
 {
     take_apart::<K>(burst)
 }
 
 fn take_apart<K: Check>(burst: &[u8]) -> Result<Packet<'_>, Refusal>
-    ensures { answer told result ≡ reading size meaning burst.now }
+    ensures { answer told result ≡ reading K.size K.meaning burst.now }
 {
     let c = K::count();
     let n = burst.len();
@@ -104,8 +104,8 @@ fn length_fits(n: usize, c: usize) -> bool
 
 // Whether the last `c` bytes are the check of those from the letter to them.
 fn check_stands<K: Check>(burst: &[u8], c: usize) -> bool
-    requires { (c ≡ size) × (3 + c ≤ length burst.now) }
-    ensures { result ≡ bytes_eq (check_of size burst.now) (meaning (covered_of size burst.now)) }
+    requires { (c ≡ K.size) × (3 + c ≤ length burst.now) }
+    ensures { result ≡ bytes_eq (check_of K.size burst.now) (K.meaning (covered_of K.size burst.now)) }
 {
     let end = burst.len() - c;
     let check = K::check(&burst[1..end]);

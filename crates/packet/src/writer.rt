@@ -11,16 +11,16 @@ use crate::refusal::Refusal;
 
 // Writes the packet of a letter and a field to the front of `out` and tells its length, or refuses with 3, 4, 5 or 29.
 pub fn write<K: Check>(letter: u8, field: &[u8], out: &mut [u8]) -> Result<usize, Refusal>
-    ensures value { answer (λ n. n) result ≡ writing size letter field.now (length out.old) }
-    ensures after { out.new ≡ after_writing (answer (λ n. n) result) (packet meaning letter field.now) out.old }
-    ensures reads_back { ReadsBack size meaning letter field.now (answer (λ n. n) result) out.new }
+    ensures value { answer (λ n. n) result ≡ writing K.size letter field.now (length out.old) }
+    ensures after { out.new ≡ after_writing (answer (λ n. n) result) (packet K.meaning letter field.now) out.old }
+    ensures reads_back { ReadsBack K.size K.meaning letter field.now (answer (λ n. n) result) out.new }
 {
     put_packet::<K>(letter, field, out)
 }
 
 fn put_packet<K: Check>(letter: u8, field: &[u8], out: &mut [u8]) -> Result<usize, Refusal>
-    ensures value { answer (λ n. n) result ≡ writing size letter field.now (length out.old) }
-    ensures after { out.new ≡ after_writing (answer (λ n. n) result) (packet meaning letter field.now) out.old }
+    ensures value { answer (λ n. n) result ≡ writing K.size letter field.now (length out.old) }
+    ensures after { out.new ≡ after_writing (answer (λ n. n) result) (packet K.meaning letter field.now) out.old }
 {
     let Some(known) = Letter::from_byte(letter) else {
         return Err(Refusal::UnknownLetter);

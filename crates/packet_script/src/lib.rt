@@ -1,2 +1,4 @@
 // What a line of a workbench script asks for that begins `packet`.
+#![tactic(auto)]
+
 pub mod call;

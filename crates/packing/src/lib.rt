@@ -1,4 +1,6 @@
 // A medium that packs its bursts into a ring of bytes.
+#![tactic(auto)]
+
 pub mod packed;
 pub mod packed_medium;
 mod rows;

@@ -1,4 +1,6 @@
 // A first-in first-out store in its user's memory, for every kind of element that is copied.
+#![tactic(auto)]
+
 pub mod slots;
 
 ghost use Rattle.std.specs.Prelude.{◌≡◌, min, [], ◌∷◌, ◌++◌, length, drop, if◌then◌else◌, nat_lt};

@@ -1,4 +1,6 @@
 // Answers a script: one line for each command of standard input.
+#![tactic(auto)]
+
 mod lines;
 
 use bench::media::{NamedMedium, Workbench};

@@ -11,7 +11,7 @@ returns-then-is-none c =
 
 pub loop-c-preserved : goal.loop-c-preserved
 loop-c-preserved c =
-    let t = ap is_some (sym c.digit.ensures) ∙ c.if-is-none.ensures in
+    let t = ap is_some (sym c.digit.ensures) ∙ c.if-is_none.ensures in
     every_more is_digit c.args.word.now c.loop-c.c-index c.loop-c-test.true t c.loop-c.invariant
 
 pub returns-then-not-is-empty : goal.returns-then-not-is-empty

@@ -7,4 +7,4 @@ pub loop-rest-preserved : goal.loop-rest-preserved
 loop-rest-preserved c =
     let two : 2 ≤ length c.loop-rest.rest.now = search rules in
     let more = decoded_more (vec_items c.loop-rest.bytes) c.loop-rest.rest.now (decoded c.args.pairs.now) two c.loop-rest.invariant in
-    rw (c.in-ok-push.ensures.items, c.byte.ensures) more
+    rw (c.in_ok-push.ensures.items, c.byte.ensures) more

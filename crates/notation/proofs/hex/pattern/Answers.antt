@@ -27,5 +27,5 @@ pub returns : goal.returns
 returns c =
     let all = ap value (take_all c.loop-c.c-index c.args.word.now c.loop-c-test.false) in
     let digits = every_all is_digit c.args.word.now c.loop-c.c-index c.loop-c-test.false c.loop-c.invariant.1.1 in
-    let some = ap not (sym c.if-is-empty.ensures) in
+    let some = ap not (sym c.if-is_empty.ensures) in
     ap (λ n. Some n) (c.loop-c.invariant.0 ∙ all) ∙ is_pattern c.args.word.now digits some (omega arith)

@@ -12,7 +12,7 @@ returns-then-not-is-ascii-digit c = no_digit c.args.largest c.args.word.now (eve
 pub loop-c-preserved : goal.loop-c-preserved
 loop-c-preserved c =
     let more = number_more c.args.largest c.args.word.now c.loop-c.c-index c.loop-c.n c.loop-c-test.true c.loop-c.invariant.0 in
-    (rw (c.min-n.ensures, c.from.ensures) more, every_more is_ascii_digit c.args.word.now c.loop-c.c-index c.loop-c-test.true (sym c.if-not-is-ascii-digit.ensures.value) c.loop-c.invariant.1)
+    (rw (c.min-n.ensures, c.from.ensures) more, every_more is_ascii_digit c.args.word.now c.loop-c.c-index c.loop-c-test.true (sym c.if-not-is_ascii_digit.ensures.value) c.loop-c.invariant.1)
 
 pub returns-then-is-empty : goal.returns-then-is-empty
 returns-then-is-empty c =
@@ -23,6 +23,6 @@ pub returns : goal.returns
 returns c =
     let all = ap number (take_all c.loop-c.c-index c.args.word.now c.loop-c-test.false) in
     let digits = every_all is_ascii_digit c.args.word.now c.loop-c.c-index c.loop-c-test.false c.loop-c.invariant.1 in
-    let some = ap not (sym c.if-is-empty.ensures) in
+    let some = ap not (sym c.if-is_empty.ensures) in
     let value : c.loop-c.n ≡ number c.args.word.now = omega arith in
     ap (λ n. Some n) value ∙ is_size c.args.largest c.args.word.now digits some (omega arith)

@@ -6,5 +6,5 @@ use Rattle.notation.proofs.words.split.Goals as goal
 
 pub returns-in-len1-up : goal.returns-in-len1-up
 returns-in-len1-up c =
-    let rest : c.split-at.result.1.now ≡ drop (prefix_len (is_other c.args.stop) c.args.bytes.now) c.args.bytes.now = search rules in
-    record { before = search rules; after = take_rest c.split-at.result.1.now 1 ∙ ap (drop 1) rest }
+    let rest : c.split_at.result.1.now ≡ drop (prefix_len (is_other c.args.stop) c.args.bytes.now) c.args.bytes.now = search rules in
+    record { before = search rules; after = take_rest c.split_at.result.1.now 1 ∙ ap (drop 1) rest }

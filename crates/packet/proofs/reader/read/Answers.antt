@@ -4,7 +4,7 @@ use Rattle.packet.proofs.reader.read.Goals as goal
 
 pub returns : goal.returns
 returns g c =
-    let is = c.take-apart.ensures in
+    let is = c.take_apart.ensures in
     record {
       value = is;
       as_written = read_as_written g.K.Check.size g.K.Check.meaning g.met.K.Check.sized c.args.burst.now _ is;

@@ -14,9 +14,9 @@ returns g c =
     let means = g.K.Check.meaning in
     let e = c.count-c.ensures in
     let n : c.count-c.result - 0 ≡ g.K.Check.size = omega (arith, e) in
-    let front = c.put-frame.ensures in
-    let check = c.copy-from-slice.ensures.after ∙ ap (λ (k : ℕ). take k c.check-check.result) n ∙ check_front g.K.Check.size _ _ c.check-check.ensures (g.met.K.Check.sized _) ∙ ap means (covered_is l f _ _ front) in
+    let front = c.put_frame.ensures in
+    let check = c.copy_from_slice.ensures.after ∙ ap (λ (k : ℕ). take k c.check-check.result) n ∙ check_front g.K.Check.size _ _ c.check-check.ensures (g.met.K.Check.sized _) ∙ ap means (covered_is l f _ _ front) in
     record {
-      value = way_out g.K.Check.size l _ f (length c.args.out.now) c.in-Some.ensures c.count-c.result _ c.in-default-accept.ensures e (omega (arith, e));
+      value = way_out g.K.Check.size l _ f (length c.args.out.now) c.in-Some.ensures c.count-c.result _ c.in_default-accept.ensures e (omega (arith, e));
       after = written c.count-c.result means l f _ _ _ front check (g.met.K.Check.sized (covered l f) ∙ sym e);
     }

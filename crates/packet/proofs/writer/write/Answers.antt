@@ -3,7 +3,7 @@ use Rattle.packet.proofs.writer.write.Goals as goal
 
 pub returns : goal.returns
 returns g c =
-    let put = c.put-packet.ensures in
+    let put = c.put_packet.ensures in
     record {
       value = put.value;
       after = put.after;
