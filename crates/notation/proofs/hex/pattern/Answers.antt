@@ -6,11 +6,11 @@ use Rattle.notation.proofs.Pairs.{digit_small}
 use Rattle.notation.proofs.Patterns.{room_for_digit, power_more, value_more, no_digit, is_pattern}
 use Rattle.notation.proofs.hex.pattern.Goals as goal
 
-pub overflow-mul-bits : goal.overflow-mul-bits
-overflow-mul-bits c = omega (arith, room_for_digit c.loop-c.c-index c.loop-c.bits (omega arith) c.loop-c.invariant.1.0)
+pub overflow_mul-bits : goal.overflow_mul-bits
+overflow_mul-bits c = omega (arith, room_for_digit c.loop-c.c-index c.loop-c.bits (omega arith) c.loop-c.invariant.1.0)
 
-pub overflow-add-bits : goal.overflow-add-bits
-overflow-add-bits c =
+pub overflow_add-bits : goal.overflow_add-bits
+overflow_add-bits c =
     let one = ap (λ o. unwrap_or o 0) c.in-Some.ensures in
     omega (arith, room_for_digit c.loop-c.c-index c.loop-c.bits (omega arith) c.loop-c.invariant.1.0, digit_small (get_or c.args.word.now c.loop-c.c-index 0))
 

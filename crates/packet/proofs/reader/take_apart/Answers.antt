@@ -15,12 +15,12 @@ returns-then-rest-end-ne-ETX g c =
     let end = end_at g.K.Check.size c.count-c.result c.args.burst.now e begin.enough in
     way_end _ _ _ _ _ begin _ c.in_default-accept.ensures (λ h. c.if-rest-end-ne-ETX.true (end ∙ h))
 
-pub returns-then-not-check_stands : goal.returns-then-not-check-stands
+pub returns-then-not-check_stands : goal.returns-then-not-check_stands
 returns-then-not-check_stands g c =
     let e = c.count-c.ensures in
-    let begin = begun g.K.Check.size c.count-c.result g.K.Check.meaning c.args.burst.now _ e c.if-not-length-fits.ensures c.if-first-ne-STX.false c.in-Some.ensures in
+    let begin = begun g.K.Check.size c.count-c.result g.K.Check.meaning c.args.burst.now _ e c.if-not-length_fits.ensures c.if-first-ne-STX.false c.in-Some.ensures in
     let end = end_at g.K.Check.size c.count-c.result c.args.burst.now e begin.enough in
-    way_check _ _ _ _ _ begin _ c.in-default-accept.ensures (sym end ∙ c.if-rest-end-ne-ETX.false) c.if-not-check-stands.ensures
+    way_check _ _ _ _ _ begin _ c.in_default-accept.ensures (sym end ∙ c.if-rest-end-ne-ETX.false) c.if-not-check_stands.ensures
 
 pub returns : goal.returns
 returns g c =
