@@ -19,5 +19,5 @@ loop-i-preserved c =
         c.take.ensures.beyond ∙ c.loop-i.invariant.3,
       )
       | in-default w ↦
-          absurd (omega (arith, none_left ys w.in-default.ensures.value, ap length c.loop-i.invariant.0, length-drop c.loop-i.i xs))
+          absurd (omega (arith, none_left ys w.in_default.ensures.value, ap length c.loop-i.invariant.0, length-drop c.loop-i.i xs))
     ]
