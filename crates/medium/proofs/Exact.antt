@@ -1,6 +1,5 @@
 -- A medium that adds the offered burst exactly where a test says so has the meaning of a medium.
 use Rattle.std.proofs.Common.{◌≡◌, ℕ, Bool, true, false, cond, ◌&&◌, List, [], ◌∷◌, ◌++◌, sym, refl, subst, inl}
-use Rattle.std.proofs.lemmas.Bool.{false≢true}
 use Rattle.medium.specs.declared.offer.Offer.{Offer}
 use Rattle.medium.specs.Bursts.{carried}
 use Rattle.medium.specs.Offered.{Offered, whole_if}

@@ -1,8 +1,8 @@
 -- A burst that is copied into its record.
 use Rattle.std.proofs.Common.{◌≡◌, ℕ, ◌-◌, ◌<◌, ◌≤◌, min, true, List, ◌++◌, length, take, drop, replicate, sym, refl, ap, ◌∙◌, inl, inr, arith}
 use Rattle.std.proofs.lemmas.List.{take_at, take_all, drop-replicate}
-use Rattle.std.proofs.lemmas.Bool.{and_from, lt-ltb, le-leb, and_parts, ltb-true, leb-true, cases_lt}
-use Rattle.medium.specs.Bursts.{Carried, carried}
+use Rattle.std.proofs.lemmas.Bool.{and_from, lt-ltb, le-leb, cases_lt}
+use Rattle.medium.specs.Bursts.{carried}
 
 pub is_carried : (b : List ℕ) → 0 < length b → length b ≤ 104 → carried b ≡ true
 is_carried b l h = and_from _ _ (lt-ltb 0 (length b) l) (le-leb (length b) 104 h)

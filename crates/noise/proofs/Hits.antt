@@ -1,16 +1,16 @@
 -- What a noisy medium does to a burst that its pattern hits.
-use Rattle.std.proofs.Common.{◌≡◌, ℕ, ◌+◌, ◌-◌, ◌*◌, ◌/◌, ◌%◌, ◌^◌, ◌<◌, ◌≤◌, Bool, true, false, cond, not, ◌&&◌, ltb, leb, ◌≢◌, List, [], ◌∷◌, ◌++◌, length, get_or, take, set, replicate, sym, refl, ap, ◌∙◌, inl, inr, arith}
+use Rattle.std.proofs.Common.{◌≡◌, ℕ, ◌+◌, ◌-◌, ◌%◌, ◌^◌, ◌<◌, ◌≤◌, Bool, true, false, cond, not, ◌&&◌, ltb, leb, ◌≢◌, List, [], ◌∷◌, ◌++◌, length, get_or, take, set, replicate, sym, refl, ap, ◌∙◌, inl, inr, arith}
 use lib.Bits.{bit_xor, xor_self, xor_assoc, xor_zero_l, xor_lt}
 use lib.Seq.{take-set-lt}
 use Rattle.std.proofs.lemmas.List.{length-set, get_or-take}
 use Rattle.std.proofs.lemmas.Bool.{cond-true, false≢true}
 use Rattle.medium.specs.declared.offer.Offer.{Offer}
-use Rattle.medium.specs.declared.offer.Offer.TheVariants.{Whole, Spoilt}
+use Rattle.medium.specs.declared.offer.Offer.TheVariants.{Spoilt}
 use Rattle.medium.specs.declared.queue.QueueMedium.{QueueMedium}
 use Rattle.medium.specs.Bursts.{carried, Altered}
 use Rattle.medium.specs.Offered.{Offered, whole_if}
-use Rattle.medium.specs.Queue.{queued, free, Kept, TakesIn}
-use Rattle.medium.proofs.Written.{is_carried, front_padded}
+use Rattle.medium.specs.Queue.{queued, free, TakesIn}
+use Rattle.medium.proofs.Written.{front_padded}
 use Rattle.noise.specs.declared.noisy.NoisyMedium.{NoisyMedium}
 use Rattle.noise.specs.Noisy.{flipped, sent, Sends}
 use Rattle.noise.specs.Patterns.{low, turned}

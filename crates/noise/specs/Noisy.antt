@@ -1,5 +1,5 @@
 -- What a noisy medium does. Assumes nothing.
-use Rattle.std.specs.Prelude.{◌≡◌, ℕ, ◌+◌, ◌%◌, ◌^◌, Bool, cond, not, ◌&&◌, List, [], ◌∷◌, ◌++◌, length, bit_xor, slice_index, slice_set}
+use Rattle.std.specs.Prelude.{◌≡◌, ℕ, ◌+◌, ◌%◌, ◌^◌, cond, not, ◌&&◌, List, [], ◌∷◌, ◌++◌, length, bit_xor, slice_index, slice_set}
 use Rattle.medium.specs.declared.offer.Offer.{Offer}
 use Rattle.medium.specs.Bursts.{carried}
 use Rattle.medium.specs.Offered.{whole_if}

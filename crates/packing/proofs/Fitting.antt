@@ -1,5 +1,5 @@
 -- What an offer to a packed medium does.
-use Rattle.std.proofs.Common.{◌≡◌, ℕ, ◌<◌, ◌≤◌, Bool, true, cond, ◌&&◌, List, [], ◌∷◌, ◌++◌, length, sym, ap, ◌∙◌}
+use Rattle.std.proofs.Common.{◌≡◌, ℕ, Bool, cond, ◌&&◌, List, [], ◌∷◌, ◌++◌, sym, ap, ◌∙◌}
 use Rattle.medium.specs.declared.offer.Offer.{Offer}
 use Rattle.medium.specs.Bursts.{Carried, carried}
 use Rattle.medium.specs.Offered.{Offered, whole_if}
@@ -7,7 +7,7 @@ use Rattle.medium.proofs.Exact.{offered}
 use Rattle.medium.proofs.Written.{is_carried}
 use Rattle.packing.specs.declared.packed.PackedMedium.{PackedMedium}
 use Rattle.packing.specs.Packed.{bytes, carries, fits, Kept, PacksIn}
-use Rattle.packing.specs.Rowed.{framed, unpacked}
+use Rattle.packing.specs.Rowed.{framed}
 use Rattle.packing.proofs.Rowed.{unpacked_if}
 
 pub packed_in : (m m' : PackedMedium) (b : List ℕ) (t : Bool) → Carried b → t ≡ fits m b → bytes m' ≡ cond t (bytes m ++ framed b) (bytes m)

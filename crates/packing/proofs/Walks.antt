@@ -1,10 +1,9 @@
 -- Steps of the loops that fill, empty and read a row of bytes.
-use Rattle.std.proofs.Common.{◌≡◌, ℕ, zero, suc, ◌+◌, ◌*◌, ◌<◌, ◌≤◌, Bool, true, false, ◌||◌, List, [], ◌∷◌, ◌++◌, length, get_or, take, drop, set, Some, None, Option, unwrap_or, sym, refl, ap, ◌∙◌, subst, append_assoc, arith}
+use Rattle.std.proofs.Common.{◌≡◌, ℕ, zero, suc, ◌+◌, ◌*◌, ◌<◌, ◌≤◌, List, [], ◌∷◌, ◌++◌, length, get_or, take, drop, set, Some, None, Option, unwrap_or, sym, refl, ap, ◌∙◌, subst, append_assoc, arith}
 use Rattle.std.specs.List.{slice_get}
 use Rattle.std.proofs.lemmas.List.{take_more, drop_more, drop-drop, length-drop, set_at, length-take-le, length-take, get_or_past, get_or-take, get_or-drop}
-use Rattle.medium.specs.Bursts.{some_letter}
 use Rattle.packing.specs.Rowed.{unpacked, Packs, lying, Lies}
-use Rattle.packing.proofs.Rowed.{two_bytes, read, Read}
+use Rattle.packing.proofs.Rowed.{two_bytes, read}
 
 pub put_step : (xs ys zs bs : List ℕ) (i : ℕ) → i < length bs → ys ≡ xs ++ take i bs → zs ≡ ys ++ get_or bs i 0 ∷ [] → zs ≡ xs ++ take (i + 1) bs
 put_step xs ys zs bs i h e q =

@@ -1,6 +1,5 @@
-use Rattle.std.proofs.Common.{arith}
 use Rattle.medium.proofs.Written.{padded_is}
 use Rattle.medium.proofs.record.padded.Goals as goal
 
 pub returns : goal.returns
-returns c = padded_is c.args.burst.now c.copy-from-slice.new.self c.min-len.result c.min-len.ensures c.copy-from-slice.ensures.after
+returns c = padded_is c.args.burst.now c.copy_from_slice.new.self c.min-len.result c.min-len.ensures c.copy_from_slice.ensures.after

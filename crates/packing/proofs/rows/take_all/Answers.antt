@@ -1,9 +1,9 @@
-use Rattle.std.proofs.Common.{◌≡◌, ◌<◌, length, set, sym, ap, ◌∙◌, arith}
+use Rattle.std.proofs.Common.{◌<◌, length, set, ap, ◌∙◌, arith}
 use Rattle.std.proofs.lemmas.List.{length-drop}
 use Rattle.ring.specs.Ring.{elements}
 use Rattle.packing.proofs.Walks.{take_step, write_step, none_left}
 use Rattle.packing.proofs.rows.take_all.Goals as goal
-use Rattle.packing.proofs.rows.take_all.Goals.{in-Some, in-default}
+use Rattle.packing.proofs.rows.take_all.Goals.{in-Some, in_default}
 
 pub loop-i-preserved : goal.loop-i-preserved
 loop-i-preserved c =
@@ -18,6 +18,6 @@ loop-i-preserved c =
         c.take.ensures.places ∙ c.loop-i.invariant.2,
         c.take.ensures.beyond ∙ c.loop-i.invariant.3,
       )
-      | in-default w ↦
-          absurd (omega (arith, none_left ys w.in-default.ensures.value, ap length c.loop-i.invariant.0, length-drop c.loop-i.i xs))
+      | in_default w ↦
+          absurd (omega (arith, none_left ys w.in_default.ensures.value, ap length c.loop-i.invariant.0, length-drop c.loop-i.i xs))
     ]

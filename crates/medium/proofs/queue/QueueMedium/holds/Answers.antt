@@ -3,7 +3,7 @@ use Rattle.ring.specs.Ring.{elements}
 use Rattle.medium.specs.Classes.{letters}
 use Rattle.medium.proofs.Queued.{letter_here, letter_next, letter_all, missing}
 use Rattle.medium.proofs.queue.QueueMedium.holds.Goals as goal
-use Rattle.medium.proofs.queue.QueueMedium.holds.Goals.{in-Some+else-has, in-default}
+use Rattle.medium.proofs.queue.QueueMedium.holds.Goals.{in-Some+else-has, in_default}
 
 pub returns-then-has : goal.returns-then-has
 returns-then-has c =
@@ -18,7 +18,7 @@ loop-k-preserved c =
           letter_next (letters c.args.class) (elements c.args.self.now.ring) c.loop-k.k w.in-Some.burst w.letter.result
           (sym w.in-Some.ensures) w.letter.ensures (sym w.if-has.ensures)
           ∙ c.loop-k.invariant
-      | in-default w ↦ absurd (missing (elements c.args.self.now.ring) c.loop-k.k (omega arith) (sym w.in-default.ensures))
+      | in_default w ↦ absurd (missing (elements c.args.self.now.ring) c.loop-k.k (omega arith) (sym w.in_default.ensures))
     ]
 
 pub returns : goal.returns

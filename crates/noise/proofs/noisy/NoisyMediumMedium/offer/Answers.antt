@@ -19,7 +19,7 @@ returns c =
     subst (λ (ys : List ℕ). TakesIn c.args.self.now.queue ys c.offer-2.result c.offer-2.new.self)
     (flipped_is b c.padded-altered.result i few h c.padded-altered.ensures) c.offer-2.ensures.exact in
     record {
-      meaning = hit_meaning c.args.self.now.queue c.offer-2.new.self b i c.offer-2.result k h (omega (arith, c.type-inv.burst i)) x;
+      meaning = hit_meaning c.args.self.now.queue c.offer-2.new.self b i c.offer-2.result k h (omega (arith, c.type_inv.burst i)) x;
       exact = hit_sends c.args.self.now record { queue = c.offer-2.new.self; pattern = c.turn.new.self; offers = (c.args.self.now.offers + 1) % 4294967296 }
           b c.offer-2.result k (sym c.if-not-turn.ensures.value) c.turn.ensures.after refl x;
     }

@@ -6,12 +6,11 @@ use Rattle.packing.proofs.Fitting.{packed_in, meaning}
 use Rattle.packing.proofs.Rowed.{packs_if}
 use Rattle.packing.proofs.packed_medium.PackedMediumMedium.offer.Goals as goal
 
-pub invariant-of-self : goal.invariant-of-self
-invariant-of-self c = (
-  packs_if (elements c.args.self.now.ring) (elements c.pack.new.ring) c.args.burst.now c.pack.result
-      c.args.self.now.packs (omega arith, omega arith) c.pack.ensures.after,
-  tt,
-)
+pub invariant_of-self : goal.invariant_of-self
+invariant_of-self c = record {
+  packs = packs_if (elements c.args.self.now.ring) (elements c.pack.new.ring) c.args.burst.now c.pack.result
+      c.args.self.now.packs (omega arith, omega arith) c.pack.ensures.after;
+}
 
 pub returns-then-pack : goal.returns-then-pack
 returns-then-pack c =
