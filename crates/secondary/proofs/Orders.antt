@@ -2,13 +2,13 @@
 use Rattle.std.proofs.Common.{◌≡◌, ℕ, ◌-◌, Bool, true, false, cond, not, ◌&&◌, eqb, ltb, List, [], ◌∷◌, ◌++◌, length, drop, sym, refl, ap, ◌∙◌, subst, arith}
 use Rattle.std.proofs.lemmas.List.{append_assoc, append-nil}
 use Rattle.packet.specs.Letters.{between}
-use Rattle.packet.specs.Refusals.{Answer, refused, gave, ◌⇒◌, judged}
+use Rattle.packet.specs.Refusals.{◌⇒◌, judged}
 use Rattle.packet.specs.declared.number.Number.{Number}
 use Rattle.secondary.specs.declared.reply.Reply.{Reply}
 use Rattle.secondary.specs.declared.reply.Response.TheVariants as response
 use Rattle.secondary.specs.Buffers.{oldest_of}
 use Rattle.secondary.specs.Laws.{Call, Enq, Data, Take, Give, after, after_all, acked, stored_by, in-hand, given_by, stored_all, given_all, LeaveInOrder}
-use Rattle.secondary.specs.Station.{Message, Station, or_kept, free_buffers, oldest_buffer, stored, lent, freed, opened, give_rules}
+use Rattle.secondary.specs.Station.{Message, Station, or_kept, free_buffers, oldest_buffer, stored, lent, freed, opened}
 
 -- the message in hand is the oldest one held while one is out, and none else
 abbrev Hand : List Message → Bool → List Message → Type 0
