@@ -1,4 +1,4 @@
-use Rattle.std.proofs.Common.{◌≡◌, ℕ, ap, ◌∙◌}
+use Rattle.std.proofs.Common.{ℕ, ap, ◌∙◌}
 use Rattle.packet.specs.Numbers.{is_one}
 use Rattle.primary.specs.Station.{Heard, ack}
 use Rattle.station.specs.End.{hears, left_by, placed_by, seen}

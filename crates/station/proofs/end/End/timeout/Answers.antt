@@ -1,5 +1,5 @@
-use Rattle.std.proofs.Common.{◌≡◌, ap, ◌∙◌}
-use Rattle.primary.specs.Station.{Heard, timeout}
+use Rattle.std.proofs.Common.{ap, ◌∙◌}
+use Rattle.primary.specs.Station.{Heard}
 use Rattle.packet.proofs.Judging.{never}
 use Rattle.station.specs.End.{hears, left_by, placed_by, seen}
 use Rattle.station.specs.Models.{model}
