@@ -1,13 +1,13 @@
 -- A message under way gets its outcome within M + 1 timeouts. Assumes nothing.
-use Rattle.std.proofs.Common.{◌≡◌, ℕ, ◌+◌, ◌-◌, ◌<◌, ◌≤◌, min, Bool, true, false, cond, not, ◌||◌, eqb, ltb, leb, ◌⊎◌, List, [], ◌∷◌, ◌++◌, length, get_or, sym, refl, ap, ◌∙◌, subst, inl, inr, arith}
+use Rattle.std.proofs.Common.{◌≡◌, ℕ, ◌+◌, ◌-◌, ◌<◌, ◌≤◌, min, Bool, true, false, cond, ◌||◌, eqb, ltb, leb, List, [], ◌∷◌, length, get_or, sym, refl, ap, ◌∙◌, subst, arith}
 use mathlib.Core.Bool.{beq}
 use Rattle.std.proofs.lemmas.Bool.{leb-false, false≢true}
 use Rattle.packet.specs.Format.{Parts, parts, reading}
-use Rattle.packet.specs.Refusals.{Answer, refused, gave, Rule, judged}
+use Rattle.packet.specs.Refusals.{Answer, refused, gave}
 use Rattle.packet.specs.declared.number.Number.TheVariants.{Zero, One}
 use Rattle.packet.proofs.Judging.{passed}
 use Rattle.primary.specs.Station as primary
-use Rattle.primary.specs.Table.{cell, hears, rules, step_of, collected, arrives, gives_up, asks, rests, sends_again, once_more}
+use Rattle.primary.specs.Table.{cell, hears, rules, step_of, arrives, gives_up, asks, rests, sends_again, once_more}
 use Rattle.secondary.specs.declared.reply.Response.{Response}
 use Rattle.secondary.specs.Station as secondary
 use Rattle.settings.specs.declared.values.Settings.{Settings}
