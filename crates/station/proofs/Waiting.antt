@@ -171,5 +171,5 @@ module _ (c : ℕ) (check : List ℕ → List ℕ) where
   timed (Collect ∷ ks) e n = one_more Collect ks e (λ is. timed ks _ (still_enough e _ (timeouts ks) (call_kept Collect e n.0 is) n))
   timed (Set f ∷ ks) e n = one_more (Set f) ks e (λ is. timed ks _ (still_enough e _ (timeouts ks) (call_kept (Set f) e n.0 is) n))
 
-  pub in-time : (e : ends.End) → e.settings.attempt_limit ≤ 20 → InTime c check e
-  in-time e l w ks h = timed ks e (w, l, omega arith, omega arith)
+  pub in_time : (e : ends.End) → e.settings.attempt_limit ≤ 20 → InTime c check e
+  in_time e l w ks h = timed ks e (w, l, omega arith, omega arith)
