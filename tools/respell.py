@@ -19,8 +19,9 @@ CRATES = os.path.join(ROOT, "crates")
 OTHER = {
     "getD-around": "get_or_around",
 }
-# Goals and steps, as Rattle names them.
+# Goals and steps, as Rattle names them, and this repository's own names that look like one.
 MADE = re.compile(r"^(returns|loop|invariant|decreases|overflow|slice|then|else|in|if|ensures)-|-requires(-\d+)?$")
+OWN = {"in-hand", "in-time", "if-made", "if-open"}
 DECLARED = re.compile(r"^\s*(?:(?:abbrev|unfoldable|pub|data|record|private|macro|prove)\s+)*((?:[^\s(){}\[\]:.,;=→λ]+\s+)*?[^\s(){}\[\]:.,;=→λ]+)\s*(?:\([^()]*\)\s*|\{[^{}]*\}\s*)*:\s")
 TOKEN = re.compile(r"[^\s(){}\[\].,;:«»\"|*∀⌜⌝]+")
 
@@ -59,7 +60,7 @@ def declared():
             if not m or "goal." in line[m.end() - 2 :]:
                 continue
             for name in m.group(1).split():
-                if "-" in name.strip("-") and not MADE.search(name) and re.match(r"^[A-Za-z]", name):
+                if "-" in name.strip("-") and (name in OWN or not MADE.search(name)) and re.match(r"^[A-Za-z]", name):
                     found.add(name)
     return found
 

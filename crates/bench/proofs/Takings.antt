@@ -5,9 +5,9 @@ use Rattle.std.proofs.lemmas.List.{take_at}
 use Rattle.medium.specs.Bursts.{first}
 use Rattle.packet.specs.Refusals.{gave}
 use Rattle.bench.specs.Media.{taken_to}
-use Rattle.bench.specs.Printed.{write_line, if-made}
+use Rattle.bench.specs.Printed.{write_line, if_made}
 
-pub taken_line : (o : Option (List (List ℕ))) (n : ℕ) (before place : List ℕ) → Some n ≡ option_map (λ bs. length (first bs)) o → place ≡ taken_to o before → write_line (gave (length (take (n - 0) place))) (take (n - 0) place) ≡ if-made o (λ bs. write_line (gave (length (first bs))) (first bs))
+pub taken_line : (o : Option (List (List ℕ))) (n : ℕ) (before place : List ℕ) → Some n ≡ option_map (λ bs. length (first bs)) o → place ≡ taken_to o before → write_line (gave (length (take (n - 0) place))) (take (n - 0) place) ≡ if_made o (λ bs. write_line (gave (length (first bs))) (first bs))
 taken_line None n before place e a = cc
 taken_line (Some bs) n before place e a =
     let told : n ≡ length (first bs) = cc in

@@ -20,9 +20,9 @@ use Rattle.end_bench.specs.Fair.{Slip, kept}
 use Rattle.end_bench.specs.Named.{Named, open_end, check}
 
 -- what is printed of an end, unless none is open
-abbrev pub if-open : Named → (Kind → End → List ℕ) → List ℕ
-if-open None line = wrong NoEnd
-if-open (Some p) line = line p.0 p.1
+abbrev pub if_open : Named → (Kind → End → List ℕ) → List ℕ
+if_open None line = wrong NoEnd
+if_open (Some p) line = line p.0 p.1
 
 -- an end after a call
 abbrev pub changed : (Kind → End → End) → Named → Named
@@ -78,14 +78,14 @@ slip_given e (Some p) = spent (give_answer p.0 p.1 e.secondary) (Some p)
 -- from.
 abbrev pub call_line : Named → Option Slip → call.Call → List ℕ
 call_line e s (call.opening l k f) = cond (bars_opening e s) (wrong SlipKept) (done_line (check k) (codes "opened ") (opening_of l f))
-call_line e s (call.submit m) = if-open e λ k x. done_line (check k) [] (submission x m)
-call_line e s call.timeout = if-open e λ k x. done_line (check k) [] (timeout x)
-call_line e s (call.arrive b) = if-open e λ k x. done_line (check k) [] (arrival 1 (check k) x b)
-call_line e s (call.take n) = if-open e λ k x. cond (bars_taking x s) (wrong SlipKept) (take_line (take_answer n x.secondary) (oldest_of x.secondary.held))
-call_line e s (call.give from) = if-open e λ k x. give_line s x
-call_line e s call.collect = if-open e λ k x. outcome_line (oldest x.primary.outcomes)
-call_line e s (call.settings f) = if-open e λ k x. set_line (change x f)
-call_line e s call.state = if-open e λ k x. state_line x
+call_line e s (call.submit m) = if_open e λ k x. done_line (check k) [] (submission x m)
+call_line e s call.timeout = if_open e λ k x. done_line (check k) [] (timeout x)
+call_line e s (call.arrive b) = if_open e λ k x. done_line (check k) [] (arrival 1 (check k) x b)
+call_line e s (call.take n) = if_open e λ k x. cond (bars_taking x s) (wrong SlipKept) (take_line (take_answer n x.secondary) (oldest_of x.secondary.held))
+call_line e s (call.give from) = if_open e λ k x. give_line s x
+call_line e s call.collect = if_open e λ k x. outcome_line (oldest x.primary.outcomes)
+call_line e s (call.settings f) = if_open e λ k x. set_line (change x f)
+call_line e s call.state = if_open e λ k x. state_line x
 
 -- the end that a call leaves
 abbrev pub end_after : Named → Option Slip → call.Call → Named

@@ -4,7 +4,7 @@ ghost use Rattle.packet.specs.Refusals.{answer};
 ghost use Rattle.station.specs.End.{opening_of, placed_by, seen};
 ghost use Rattle.station.specs.Reports.{told, telling};
 ghost use Rattle.end_script.specs.Calls as call;
-ghost use Rattle.end_bench.specs.Calls.{if-open, changed, is_out, bars_opening, opened, give_line, given, slip_given, call_line, end_after, of_open, slip_after};
+ghost use Rattle.end_bench.specs.Calls.{if_open, changed, is_out, bars_opening, opened, give_line, given, slip_given, call_line, end_after, of_open, slip_after};
 ghost use Rattle.end_bench.specs.Fair.{kept};
 ghost use Rattle.end_bench.specs.Named.{open_end, check};
 
@@ -119,7 +119,7 @@ pub(crate) fn give(
     end: &mut NamedEnd,
     slip: &mut Option<DeliverySlip>,
 ) -> Result<String, AllocError>
-    ensures printed { IfOk result (λ s. string_bytes s ≡ if-open (open_end end.old) (λ _ x. give_line (kept slip.old) x)) }
+    ensures printed { IfOk result (λ s. string_bytes s ≡ if_open (open_end end.old) (λ _ x. give_line (kept slip.old) x)) }
     ensures after { open_end end.new ≡ changed (λ _ x. given (kept slip.old) x) (open_end end.old) }
     ensures slip { kept slip.new ≡ of_open (open_end end.old) (kept slip.old) (λ x. slip_given x (kept slip.old)) }
 {

@@ -5,9 +5,9 @@ use Rattle.std.proofs.lemmas.List.{take_at}
 use Rattle.medium.specs.Bursts.{first}
 use Rattle.answers.specs.Lines.{burst_line}
 use Rattle.named_media.specs.Media.{taken_to}
-use Rattle.medium_bench.specs.Printed.{if-made}
+use Rattle.medium_bench.specs.Printed.{if_made}
 
-pub taken_line : (o : Option (List (List ℕ))) (n : ℕ) (before place : List ℕ) → Some n ≡ option_map (λ bs. length (first bs)) o → place ≡ taken_to o before → burst_line (take (n - 0) place) ≡ if-made o (λ bs. burst_line (first bs))
+pub taken_line : (o : Option (List (List ℕ))) (n : ℕ) (before place : List ℕ) → Some n ≡ option_map (λ bs. length (first bs)) o → place ≡ taken_to o before → burst_line (take (n - 0) place) ≡ if_made o (λ bs. burst_line (first bs))
 taken_line None n before place e a = cc
 taken_line (Some bs) n before place e a =
     let told : n ≡ length (first bs) = cc in

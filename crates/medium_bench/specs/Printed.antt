@@ -24,16 +24,16 @@ abbrev pub holds_line : Bool → Bool → List ℕ
 holds_line commands answers = codes "commands=" ++ (truth commands ++ (codes " answers=" ++ (truth answers ++ end)))
 
 -- what is printed of a medium, unless it is not made
-abbrev pub if-made : {A : Type 0} → Option A → (A → List ℕ) → List ℕ
-if-made None line = wrong NoMedium
-if-made (Some x) line = line x
+abbrev pub if_made : {A : Type 0} → Option A → (A → List ℕ) → List ℕ
+if_made None line = wrong NoMedium
+if_made (Some x) line = line x
 
 abbrev pub call_line : Named → Call → List ℕ
 call_line n (make s) = codes "made" ++ end
-call_line n (offer b) = if-made (offer_answer b n) offer_line
-call_line n take = if-made (under_way n) λ bs. burst_line (first bs)
-call_line n count = if-made (under_way n) λ bs. decimal (length bs) ++ end
-call_line n holds = if-made (under_way n) λ bs. holds_line (some_letter letters.command bs) (some_letter letters.answer bs)
+call_line n (offer b) = if_made (offer_answer b n) offer_line
+call_line n take = if_made (under_way n) λ bs. burst_line (first bs)
+call_line n count = if_made (under_way n) λ bs. decimal (length bs) ++ end
+call_line n holds = if_made (under_way n) λ bs. holds_line (some_letter letters.command bs) (some_letter letters.answer bs)
 
 abbrev pub named : Name → Named × Named → Named
 named M w = w.0

@@ -1,14 +1,14 @@
 -- A written packet altered in just one byte is refused. Assumes nothing.
-use Rattle.std.proofs.Common.{◌≡◌, ℕ, zero, suc, ◌+◌, ◌-◌, ◌<◌, ◌≤◌, Bool, true, false, cond, ◌&&◌, leb, ◌⊎◌, List, [], ◌∷◌, ◌++◌, length, get_or, take, drop, set, sym, refl, ap, ◌∙◌, subst, inl, inr, arith, length-append, length-set}
+use Rattle.std.proofs.Common.{◌≡◌, ℕ, zero, suc, ◌-◌, ◌<◌, ◌≤◌, Bool, true, false, cond, leb, ◌⊎◌, List, [], ◌∷◌, ◌++◌, length, get_or, take, drop, set, sym, refl, ap, ◌∙◌, subst, inl, inr, arith, length-append, length-set}
 use Rattle.std.proofs.lemmas.List.{take_at, drop_at, get_or_append_left, get_or-append_right, get_or-set_same, set-append_left, set-append_right}
 use Rattle.std.proofs.lemmas.Bool.{and_parts, cases_lt, leb-true}
 use Rattle.std.proofs.lemmas.Bool.Decides.{nat_tests}
 use Rattle.packet.specs.Checks.{Each, Altered}
 use Rattle.packet.specs.Format.{Parts, parts, covered, packet, reading}
-use Rattle.packet.specs.Laws.{Makes, AlteredRefused}
-use Rattle.packet.specs.Letters.{between, known, is_data, allowed, each_between, least, greatest}
+use Rattle.packet.specs.Laws.{AlteredRefused}
+use Rattle.packet.specs.Letters.{between, known, is_data, each_between, least, greatest}
 use Rattle.packet.specs.Refusals.{Answer, refused, gave}
-use Rattle.packet.proofs.Roundtrip.{Accepted, accepted, read_is_written, covered_long}
+use Rattle.packet.proofs.Roundtrip.{Accepted, accepted, read_is_written}
 
 -- equal lists whose fronts are equally long have equal parts
 fronts : (p q r s : List ℕ) → length p ≡ length r → p ++ q ≡ r ++ s → (p ≡ r) × (q ≡ s)

@@ -1,6 +1,6 @@
 -- A list of rules, rule by rule and part by part. Assumes nothing.
 use Rattle.std.proofs.Common.{◌≡◌, ℕ, Bool, true, false, cond, List, [], ◌∷◌, ◌++◌, sym, refl, ap, ◌∙◌, arith}
-use Rattle.packet.specs.Refusals.{Answer, refused, gave, Rule, ◌⇒◌, judged}
+use Rattle.packet.specs.Refusals.{refused, gave, Rule, ◌⇒◌, judged}
 
 -- no rule refuses
 abbrev pub Passed : List Rule → Type 0

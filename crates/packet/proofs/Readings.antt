@@ -1,12 +1,12 @@
 -- The reader's way through the rules. Assumes nothing.
-use Rattle.std.proofs.Common.{◌≡◌, ℕ, ◌+◌, ◌-◌, ◌≤◌, Bool, true, false, cond, not, eqb, List, [], ◌∷◌, ◌++◌, length, get_or, take, drop, replicate, Some, None, sym, refl, ap, ◌∙◌, subst, arith}
+use Rattle.std.proofs.Common.{◌≡◌, ℕ, ◌+◌, ◌-◌, ◌≤◌, Bool, true, false, cond, not, eqb, List, [], ◌∷◌, ◌++◌, length, get_or, take, drop, replicate, Some, None, sym, refl, ap, ◌∙◌, arith}
 use Rattle.std.specs.Str.{bytes_eq}
 use Rattle.std.proofs.lemmas.List.{take_rest, take_at, get_or-drop}
 use Rattle.std.proofs.lemmas.Bool.{eq-eqb, ne_eqb}
 use Rattle.std.proofs.lemmas.Bool.Decides.{nat_tests}
 use Rattle.packet.specs.Checks.{padded}
 use Rattle.packet.specs.Letters.{between, known}
-use Rattle.packet.specs.Format.{Parts, parts, parts_of, field_of, covered_of, end_byte, check_of, field_rules, start_rules, end_rules, reading}
+use Rattle.packet.specs.Format.{parts, parts_of, field_of, covered_of, end_byte, check_of, field_rules, start_rules, end_rules, reading}
 use Rattle.packet.specs.Refusals.{refused, gave, ◌⇒◌, judged}
 use Rattle.packet.proofs.Judging.{past, all_past, stopped, front_refuses, passed}
 

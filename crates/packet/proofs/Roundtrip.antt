@@ -1,14 +1,14 @@
 -- What is written reads back, and what is read was written. Assumes nothing.
-use Rattle.std.proofs.Common.{◌≡◌, ℕ, suc, ◌+◌, ◌-◌, ◌≤◌, Bool, true, false, not, eqb, ltb, List, [], ◌∷◌, ◌++◌, length, get_or, take, drop, sym, refl, ap, ◌∙◌, subst, arith, length-append, take-append-drop}
+use Rattle.std.proofs.Common.{◌≡◌, ℕ, suc, ◌+◌, ◌-◌, ◌≤◌, true, not, eqb, List, [], ◌∷◌, ◌++◌, length, get_or, take, drop, sym, refl, ap, ◌∙◌, arith, length-append, take-append-drop}
 use Rattle.std.specs.Str.{bytes_eq}
 use Rattle.std.proofs.lemmas.Slice.Eq.{bytes_eq-Decides}
 use Rattle.std.proofs.lemmas.List.{append_assoc, take_at, drop_at, get_or_at, drop_more}
 use Rattle.std.proofs.lemmas.Bool.{eqb-true, le-ltb, not-false}
 use Rattle.std.proofs.lemmas.Bool.Decides.{nat_tests}
 use Rattle.packet.specs.Letters.{between, known, fits, allowed}
-use Rattle.packet.specs.Format.{Parts, parts, parts_of, field_of, covered_of, end_byte, check_of, covered, packet, field_rules, start_rules, end_rules, reading, writing_rules, writing}
-use Rattle.packet.specs.Laws.{Makes, ReadAsWritten, ReadsBack}
-use Rattle.packet.specs.Refusals.{Answer, refused, gave, Rule, ◌⇒◌, judged}
+use Rattle.packet.specs.Format.{Parts, parts, parts_of, field_of, covered_of, end_byte, check_of, covered, packet, field_rules, start_rules, end_rules, reading, writing_rules}
+use Rattle.packet.specs.Laws.{Makes, ReadAsWritten}
+use Rattle.packet.specs.Refusals.{Answer, gave}
 use Rattle.packet.proofs.Judging.{Passed, all_past, passed}
 
 -- a letter and a field that the writer takes

@@ -5,7 +5,7 @@ use Rattle.std.proofs.lemmas.List.{append_assoc, drop_more, set_at, take_at}
 use Rattle.std.proofs.lemmas.Slice.{put_mid-paste, drop-append-drop}
 use Rattle.std.proofs.lemmas.List.Edits.{paste_all}
 use Rattle.std.proofs.lemmas.Bool.{le-ltb}
-use Rattle.packet.specs.Format.{parts, covered, packet, field_rules, writing_rules, writing, after_writing, reading}
+use Rattle.packet.specs.Format.{covered, packet, field_rules, writing_rules, writing, after_writing, reading}
 use Rattle.packet.specs.Laws.{ReadsBack}
 use Rattle.packet.specs.Letters.{known}
 use Rattle.packet.specs.Refusals.{Answer, refused, gave, Rule, ◌⇒◌, judged}

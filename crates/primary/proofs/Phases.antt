@@ -1,5 +1,5 @@
 -- A state with its messages without outcome, as a phase. Assumes nothing.
-use Rattle.std.proofs.Common.{◌≡◌, ℕ, ◌+◌, ◌-◌, ◌*◌, ◌<◌, ◌≤◌, List, [], ◌∷◌, ◌++◌, length, get_or, drop, sym, refl, ap, ◌∙◌, arith}
+use Rattle.std.proofs.Common.{◌≡◌, ◌-◌, ◌*◌, ◌≤◌, List, [], ◌∷◌, length, refl, arith}
 use Rattle.primary.specs.declared.buffers.SendBuffers.{SendBuffers}
 use Rattle.primary.specs.declared.station.State.{State}
 use Rattle.primary.specs.declared.station.State.TheVariants.{Off, Ready, Waiting, Asking}

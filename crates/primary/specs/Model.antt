@@ -1,5 +1,5 @@
 -- What the code's station, event and step stand for. Assumes nothing.
-use Rattle.std.specs.Prelude.{Bool, List, [], drop, Some, None, Option, slice_index_or}
+use Rattle.std.specs.Prelude.{List, [], drop, Some, None, Option, slice_index_or}
 use Rattle.std.specs.Option.{option_map}
 use Rattle.primary.specs.declared.event.Event.{Event}
 use Rattle.primary.specs.declared.event.Event.TheVariants as event

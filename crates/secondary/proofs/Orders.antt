@@ -2,13 +2,13 @@
 use Rattle.std.proofs.Common.{◌≡◌, ℕ, ◌-◌, Bool, true, false, cond, not, ◌&&◌, eqb, ltb, List, [], ◌∷◌, ◌++◌, length, drop, sym, refl, ap, ◌∙◌, subst, arith}
 use Rattle.std.proofs.lemmas.List.{append_assoc, append-nil}
 use Rattle.packet.specs.Letters.{between}
-use Rattle.packet.specs.Refusals.{Answer, refused, gave, ◌⇒◌, judged}
+use Rattle.packet.specs.Refusals.{◌⇒◌, judged}
 use Rattle.packet.specs.declared.number.Number.{Number}
 use Rattle.secondary.specs.declared.reply.Reply.{Reply}
 use Rattle.secondary.specs.declared.reply.Response.TheVariants as response
 use Rattle.secondary.specs.Buffers.{oldest_of}
-use Rattle.secondary.specs.Laws.{Call, Enq, Data, Take, Give, after, after_all, acked, stored_by, in-hand, given_by, stored_all, given_all, LeaveInOrder}
-use Rattle.secondary.specs.Station.{Message, Station, or_kept, free_buffers, oldest_buffer, stored, lent, freed, opened, give_rules}
+use Rattle.secondary.specs.Laws.{Call, Enq, Data, Take, Give, after, after_all, acked, stored_by, in_hand, given_by, stored_all, given_all, LeaveInOrder}
+use Rattle.secondary.specs.Station.{Message, Station, or_kept, free_buffers, oldest_buffer, stored, lent, freed, opened}
 
 -- the message in hand is the oldest one held while one is out, and none else
 abbrev Hand : List Message → Bool → List Message → Type 0
@@ -69,7 +69,7 @@ step_give true true true line last held next hand h =
       holds = refl;
     }
 
-step : (c : Call) (hand : List Message) (s : Station) → Hand hand s.out s.held → Step hand (given_by hand c s) (stored_by c s) (in-hand hand c s) s (after c s)
+step : (c : Call) (hand : List Message) (s : Station) → Hand hand s.out s.held → Step hand (given_by hand c s) (stored_by c s) (in_hand hand c s) s (after c s)
 step (Enq limit) hand s h = nothing hand s h
 step (Data limit n m) hand s h = step_data (not (between 1 96 (length m))) (ltb 0 (free_buffers limit s)) n (free_buffers limit s - 1) m hand s h
 step (Take size) hand s h = step_take (ltb size 96) (eqb (length s.held) 0) s.out s.line s.last s.held s.next hand (some_held s.held) h
@@ -79,8 +79,8 @@ order : (cs : List Call) (hand : List Message) (s : Station) → Hand hand s.out
 order [] hand s h = sym (append-nil s.held)
 order (c ∷ cs) hand s h =
     let one = step c hand s h in
-    append_assoc (given_by hand c s) (given_all (in-hand hand c s) cs (after c s)) (after_all cs (after c s)).held
-    ∙ ap (λ (xs : List Message). given_by hand c s ++ xs) (order cs (in-hand hand c s) (after c s) one.holds)
+    append_assoc (given_by hand c s) (given_all (in_hand hand c s) cs (after c s)) (after_all cs (after c s)).held
+    ∙ ap (λ (xs : List Message). given_by hand c s ++ xs) (order cs (in_hand hand c s) (after c s) one.holds)
     ∙ sym (append_assoc (given_by hand c s) (after c s).held (stored_all cs (after c s)))
     ∙ ap (λ (xs : List Message). xs ++ stored_all cs (after c s)) one.adds
     ∙ append_assoc s.held (stored_by c s) (stored_all cs (after c s))

@@ -1,10 +1,10 @@
 -- A slip's buffer stays out. Assumes nothing.
-use Rattle.std.proofs.Common.{◌≡◌, ℕ, ◌+◌, ◌-◌, ◌%◌, ◌<◌, ◌≤◌, min, Bool, true, false, cond, not, ◌&&◌, eqb, ltb, List, [], ◌∷◌, ◌++◌, length, sym, refl, ap, ◌∙◌, subst, arith, length-append}
+use Rattle.std.proofs.Common.{◌≡◌, ℕ, ◌+◌, ◌-◌, ◌%◌, ◌<◌, ◌≤◌, min, Bool, true, false, cond, not, ◌&&◌, eqb, ltb, List, [], ◌∷◌, ◌++◌, length, sym, refl, ◌∙◌, subst, arith, length-append}
 use Rattle.std.proofs.lemmas.Bool.Decides.{nat_tests}
 use Rattle.packet.specs.Letters.{between}
-use Rattle.packet.specs.Refusals.{Answer, refused, gave, ◌⇒◌, judged}
+use Rattle.packet.specs.Refusals.{refused, gave, ◌⇒◌, judged}
 use Rattle.packet.specs.declared.number.Number.{Number}
-use Rattle.secondary.specs.Laws.{Call, Enq, Data, Take, Give, after, after_all, Spares, StaysOut}
+use Rattle.secondary.specs.Laws.{Call, Enq, Data, Take, Give, after_all, Spares, StaysOut}
 use Rattle.secondary.specs.Station.{Message, Station, or_kept, free_buffers, oldest_buffer, stored, take_answer, lent, slip_out, freed, give_answer}
 
 pub record Out (line buffer : ℕ) (s : Station) : Type 0 where

@@ -38,11 +38,11 @@ stored_by (Take size) s = []
 stored_by (Give line buffer) s = []
 
 -- the message that was taken and is not yet given back, after a call
-abbrev pub in-hand : List Message → Call → Station → List Message
-in-hand hand (Enq limit) s = hand
-in-hand hand (Data limit n m) s = hand
-in-hand hand (Take size) s = or_kept (judged (take_rules size s) (oldest_of s.held ∷ [])) hand
-in-hand hand (Give line buffer) s = or_kept (judged (give_rules line buffer s) []) hand
+abbrev pub in_hand : List Message → Call → Station → List Message
+in_hand hand (Enq limit) s = hand
+in_hand hand (Data limit n m) s = hand
+in_hand hand (Take size) s = or_kept (judged (take_rules size s) (oldest_of s.held ∷ [])) hand
+in_hand hand (Give line buffer) s = or_kept (judged (give_rules line buffer s) []) hand
 
 abbrev pub given_by : List Message → Call → Station → List Message
 given_by hand (Enq limit) s = []
@@ -57,7 +57,7 @@ stored_all (c ∷ cs) s = stored_by c s ++ stored_all cs (after c s)
 
 abbrev pub given_all : List Message → List Call → Station → List Message
 given_all hand [] s = []
-given_all hand (c ∷ cs) s = given_by hand c s ++ given_all (in-hand hand c s) cs (after c s)
+given_all hand (c ∷ cs) s = given_by hand c s ++ given_all (in_hand hand c s) cs (after c s)
 
 -- deliveries leave in the order stored, none lost and none twice: after any calls, what was taken and given back, and then
 -- what is still held, is what was stored

@@ -1,9 +1,9 @@
 -- Worked answers of a secondary station on line 0. The crate station asks for them. Assumes nothing.
-use Rattle.std.specs.Prelude.{◌≡◌, ℕ, true, false, List, [], ◌∷◌}
+use Rattle.std.specs.Prelude.{◌≡◌, [], ◌∷◌}
 use Rattle.packet.specs.Refusals.{refused, gave}
 use Rattle.packet.specs.declared.number.Number.TheVariants.{Zero, One}
 use Rattle.secondary.specs.declared.reply.Response.TheVariants.{Nothing, Reset, Ack}
-use Rattle.secondary.specs.Laws.{Call, Data, Take, Give, after_all}
+use Rattle.secondary.specs.Laws.{Data, Take, Give, after_all}
 use Rattle.secondary.specs.Station.{Message, Station, opened, enq_answer, data_answer, take_answer, give_answer}
 
 abbrev OK : Message

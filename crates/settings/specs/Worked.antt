@@ -1,5 +1,5 @@
 -- Worked settings frames. The crate station asks for them. Assumes nothing.
-use Rattle.std.specs.Prelude.{◌≡◌, ℕ, Bool, true, false, List, [], ◌∷◌}
+use Rattle.std.specs.Prelude.{◌≡◌, ℕ, true, false, List, [], ◌∷◌}
 use Rattle.packet.specs.Refusals.{refused, gave}
 use Rattle.settings.specs.declared.values.Settings.{Settings}
 use Rattle.settings.specs.Frame.{settings_of, change_of, frame_of}

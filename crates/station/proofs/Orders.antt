@@ -11,7 +11,7 @@ use Rattle.secondary.specs.declared.reply.Response.{Response}
 use Rattle.secondary.specs.Laws as deliveries
 use Rattle.secondary.specs.Station as secondary
 use Rattle.settings.specs.declared.values.Settings.{Settings}
-use Rattle.station.specs.End.{End, Done, limit, hears, by_primary, by_secondary, enq_heard, data_heard, dispatched, after_reading, arrival, left_by, set_by, seen, change}
+use Rattle.station.specs.End.{End, limit, hears, by_primary, by_secondary, enq_heard, data_heard, after_reading, left_by, set_by, seen, change}
 use Rattle.station.specs.Runs.{Call, Submit, Arrive, Expire, Take, Give, Collect, Set, asked_by, after, after_all, asked, asked_all, LeaveInOrder, StaysOut}
 
 -- the primary station's calls leave the secondary alone

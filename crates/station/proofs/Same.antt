@@ -3,13 +3,14 @@ use Rattle.std.proofs.Common.{◌≡◌, ◌≤◌, true, IfErr, Ok, Err, Result
 use mathlib.Core.Bool.{Bool-set}
 use mathlib.Core.HLevel.{is_prop→PathP}
 use native.Mathlib.Bridge.{le_prop}
+use Rattle.packet.specs.declared.checks.Check as check
 use Rattle.primary.specs.Model.{model}
 use Rattle.primary.specs.Station.{unsettled_in}
 use Rattle.station.specs.declared.end.End.{End}
 use Rattle.station.specs.Valid.{all_valid}
 
 -- what the ghost fields say has one proof at most
-pub same_end : {K : Type 0} (e e' : End K) → e'.kind ≡ e.kind → e'.settings ≡ e.settings → e'.primary ≡ e.primary → e'.secondary ≡ e.secondary → e' ≡ e
+pub same_end : {K : Type 0} {g : check.Ghosts K} (e e' : End K g) → e'.kind ≡ e.kind → e'.settings ≡ e.settings → e'.primary ≡ e.primary → e'.secondary ≡ e.secondary → e' ≡ e
 same_end e e' k s p q =
     λ i. record {
       kind = k i;
@@ -21,6 +22,6 @@ same_end e e' k s p q =
     }
 
 -- what a refused call leaves, from what a part of it leaves
-pub where_same : {K A E P : Type 0} (r : Result A E) (e e' : End K) → (P → e' ≡ e) → IfErr r (λ _. P) → IfErr r (λ _. e' ≡ e)
+pub where_same : {K A E P : Type 0} {g : check.Ghosts K} (r : Result A E) (e e' : End K g) → (P → e' ≡ e) → IfErr r (λ _. P) → IfErr r (λ _. e' ≡ e)
 where_same (Ok x) e e' f h = tt
 where_same (Err x) e e' f h = f h

@@ -1,9 +1,9 @@
 -- Messages without outcome can be sent, whatever the primary station hears. Assumes nothing.
-use Rattle.std.proofs.Common.{◌≡◌, ℕ, Bool, true, false, cond, not, ◌&&◌, leb, List, [], ◌∷◌, ◌++◌, length, IfErr, Ok, Err, Result, sym, refl, ap, ◌∙◌}
+use Rattle.std.proofs.Common.{◌≡◌, ℕ, Bool, true, false, cond, leb, List, [], ◌∷◌, ◌++◌, length, IfErr, Ok, Err, Result, sym, refl, ap, ◌∙◌}
 use mathlib.Core.Bool.{beq}
 use Rattle.std.proofs.lemmas.Bool.{and_parts, and_from, not-false}
 use Rattle.packet.specs.Letters.{between, each_between}
-use Rattle.packet.specs.Refusals.{Answer, refused, gave, answer}
+use Rattle.packet.specs.Refusals.{gave, answer}
 use Rattle.packet.specs.declared.refusal.Refusal.{Refusal}
 use Rattle.packet.proofs.Judging.{passed, Passed}
 use Rattle.primary.specs.declared.event.Step.{Step}

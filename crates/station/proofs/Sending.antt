@@ -7,7 +7,7 @@ use Rattle.packet.specs.declared.letter.Letter.TheVariants.{Enq, Data0, Data1, A
 use Rattle.packet.specs.Bytes.{byte_of}
 use Rattle.packet.specs.Format.{packet, writing, writing_rules, after_writing}
 use Rattle.packet.specs.Letters.{known, fits, allowed}
-use Rattle.packet.specs.Refusals.{Answer, refused, gave}
+use Rattle.packet.specs.Refusals.{refused, gave}
 use Rattle.packet.proofs.Judging.{all_past, never}
 use Rattle.packet.proofs.Roundtrip.{packet_long}
 

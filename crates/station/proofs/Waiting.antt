@@ -1,13 +1,13 @@
 -- A message under way gets its outcome within M + 1 timeouts. Assumes nothing.
-use Rattle.std.proofs.Common.{◌≡◌, ℕ, ◌+◌, ◌-◌, ◌<◌, ◌≤◌, min, Bool, true, false, cond, not, ◌||◌, eqb, ltb, leb, ◌⊎◌, List, [], ◌∷◌, ◌++◌, length, get_or, sym, refl, ap, ◌∙◌, subst, inl, inr, arith}
+use Rattle.std.proofs.Common.{◌≡◌, ℕ, ◌+◌, ◌-◌, ◌<◌, ◌≤◌, min, Bool, true, false, cond, ◌||◌, eqb, ltb, leb, List, [], ◌∷◌, length, get_or, sym, refl, ap, ◌∙◌, subst, arith}
 use mathlib.Core.Bool.{beq}
 use Rattle.std.proofs.lemmas.Bool.{leb-false, false≢true}
 use Rattle.packet.specs.Format.{Parts, parts, reading}
-use Rattle.packet.specs.Refusals.{Answer, refused, gave, Rule, judged}
+use Rattle.packet.specs.Refusals.{Answer, refused, gave}
 use Rattle.packet.specs.declared.number.Number.TheVariants.{Zero, One}
 use Rattle.packet.proofs.Judging.{passed}
 use Rattle.primary.specs.Station as primary
-use Rattle.primary.specs.Table.{cell, hears, rules, step_of, collected, arrives, gives_up, asks, rests, sends_again, once_more}
+use Rattle.primary.specs.Table.{cell, hears, rules, step_of, arrives, gives_up, asks, rests, sends_again, once_more}
 use Rattle.secondary.specs.declared.reply.Response.{Response}
 use Rattle.secondary.specs.Station as secondary
 use Rattle.settings.specs.declared.values.Settings.{Settings}
@@ -171,5 +171,5 @@ module _ (c : ℕ) (check : List ℕ → List ℕ) where
   timed (Collect ∷ ks) e n = one_more Collect ks e (λ is. timed ks _ (still_enough e _ (timeouts ks) (call_kept Collect e n.0 is) n))
   timed (Set f ∷ ks) e n = one_more (Set f) ks e (λ is. timed ks _ (still_enough e _ (timeouts ks) (call_kept (Set f) e n.0 is) n))
 
-  pub in-time : (e : ends.End) → e.settings.attempt_limit ≤ 20 → InTime c check e
-  in-time e l w ks h = timed ks e (w, l, omega arith, omega arith)
+  pub in_time : (e : ends.End) → e.settings.attempt_limit ≤ 20 → InTime c check e
+  in_time e l w ks h = timed ks e (w, l, omega arith, omega arith)

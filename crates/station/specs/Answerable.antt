@@ -1,5 +1,5 @@
 -- Answers that can be sent. Assumes nothing.
-use Rattle.std.specs.Prelude.{ℕ, ◌≤◌}
+use Rattle.std.specs.Prelude.{◌≤◌}
 use Rattle.secondary.specs.declared.reply.Response.{Response}
 use Rattle.secondary.specs.declared.reply.Response.TheVariants.{Nothing, Reset, Ack}
 

@@ -11,10 +11,8 @@ use Rattle.settings.specs.declared.values.Settings.{Settings}
 use Rattle.settings.specs.Frame.{settings_of, change_of}
 use Rattle.primary.specs.declared.event.Timer.{Timer}
 use Rattle.primary.specs.declared.event.Timer.TheVariants as timer
-use Rattle.primary.specs.declared.outcome.Outcome.{Outcome}
-use Rattle.primary.specs.Rules.{oldest}
 use Rattle.primary.specs.Station as primary
-use Rattle.primary.specs.Table.{step_of, opening, collected}
+use Rattle.primary.specs.Table.{step_of, opening}
 use Rattle.secondary.specs.declared.reply.Response.{Response}
 use Rattle.secondary.specs.declared.reply.Response.TheVariants as response
 use Rattle.secondary.specs.Station as secondary

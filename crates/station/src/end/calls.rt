@@ -30,8 +30,8 @@ use settings::values::Settings;
 // Writes a packet that can be written to the front of `place`, and tells its length.
 fn send<K: Check>(letter: Letter, field: &[u8], place: &mut [u8; 104]) -> usize
     requires { (fits (byte_of letter) (length field.now) ≡ true) × (allowed (byte_of letter) field.now ≡ true) }
-    ensures value { result ≡ length (packet meaning (byte_of letter) field.now) }
-    ensures after { place.new ≡ packet meaning (byte_of letter) field.now ++ drop result place.old }
+    ensures value { result ≡ length (packet K.Check.meaning (byte_of letter) field.now) }
+    ensures after { place.new ≡ packet K.Check.meaning (byte_of letter) field.now ++ drop result place.old }
 {
     match write::<K>(letter.byte(), field, place) {
         Ok(n) => n,

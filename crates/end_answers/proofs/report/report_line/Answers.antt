@@ -7,6 +7,6 @@ use Rattle.end_answers.proofs.report.report_line.Goals as goal
 pub returns : goal.returns
 returns c =
     let shown =
-    report_shown (told c.args.report) c.args.word.now c.args.place.now c.letter-text-letter.result.now (string_bytes c.in-ok-burst.burst) (string_bytes c.in-ok-timer.timer) (string_bytes c.in-ok-sent.sent) c.min.result
-    c.told-place c.min.ensures c.letter-text-letter.ensures c.in-ok-burst.ensures.text c.in-ok-timer.ensures c.in-ok-sent.ensures.ok in
+    report_shown (told c.args.report) c.args.word.now c.args.place.now c.letter_text-letter.result.now (string_bytes c.in_ok-burst.burst) (string_bytes c.in_ok-timer.timer) (string_bytes c.in_ok-sent.sent) c.min.result
+    c.told-place c.min.ensures c.letter_text-letter.ensures c.in_ok-burst.ensures.text c.in_ok-timer.ensures c.in_ok-sent.ensures.ok in
     IfOk-weaker c.format-2.result _ _ (λ s e. e ∙ shown) c.format-2.ensures.ok

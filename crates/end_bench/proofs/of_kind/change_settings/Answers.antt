@@ -9,7 +9,7 @@ use Rattle.end_bench.proofs.of_kind.change_settings.Goals as goal
 pub returns-in-Ok : goal.returns-in-Ok
 returns-in-Ok g c =
     let line = changed_line (change (model c.args.end.now) c.args.frame.now) (gave tt) c.in-Ok.ensures.value in
-    record { printed = IfOk-weaker c.from-str.result _ _ (λ s e. e ∙ line) c.from-str.ensures.ok; after = c.in-Ok.ensures.after }
+    record { printed = IfOk-weaker c.from_str.result _ _ (λ s e. e ∙ line) c.from_str.ensures.ok; after = c.in-Ok.ensures.after }
 
 pub returns-in-Err : goal.returns-in-Err
 returns-in-Err g c =

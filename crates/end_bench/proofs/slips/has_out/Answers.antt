@@ -10,4 +10,4 @@ some_out false n = refl
 pub returns : goal.returns
 returns g c =
     let s = (model c.args.end.now).secondary in
-    c.is-some.ensures ∙ ap is_some c.holding.ensures.out ∙ some_out s.out (oldest_buffer s)
+    c.is_some.ensures ∙ ap is_some c.holding.ensures.out ∙ some_out s.out (oldest_buffer s)

@@ -1,5 +1,4 @@
-use Rattle.std.proofs.Common.{◌≡◌, true, false, ◌&&◌, is_some, sym, ap, ◌∙◌, arith, rules}
-use Rattle.notation.specs.Bytes.{every}
+use Rattle.std.proofs.Common.{is_some, sym, ap, ◌∙◌}
 use Rattle.notation.specs.Hex.{is_digit}
 use Rattle.notation.proofs.Every.{every_more, every_stops, every_all}
 use Rattle.notation.proofs.hex.are_pairs.Goals as goal

@@ -1,4 +1,4 @@
-use Rattle.std.proofs.Common.{unwrap_or, ap, arith}
+use Rattle.std.proofs.Common.{arith}
 use Rattle.notation.proofs.Pairs.{digit_small}
 use Rattle.notation.proofs.hex.byte.Goals as goal
 

@@ -1,5 +1,5 @@
-use Rattle.std.proofs.Common.{◌≡◌, ◌≤◌, [], ◌∷◌, ◌++◌, length, get_or, vec_items, sym, ap, ◌∙◌, rules}
-use Rattle.notation.specs.Hex.{decoded, byte}
+use Rattle.std.proofs.Common.{◌≤◌, length, vec_items, rules}
+use Rattle.notation.specs.Hex.{decoded}
 use Rattle.notation.proofs.Pairs.{decoded_more}
 use Rattle.notation.proofs.hex.decode.Goals as goal
 

@@ -1,7 +1,7 @@
-use Rattle.std.proofs.Common.{◌≡◌, ◌/◌, ◌%◌, ◌<◌, ◌++◌, get_or, string_bytes, sym, ap, ◌∙◌, append-nil, arith}
+use Rattle.std.proofs.Common.{◌/◌, ◌%◌, ◌<◌, ◌++◌, get_or, string_bytes, sym, ap, ◌∙◌, append-nil, arith}
 use Rattle.std.proofs.lemmas.List.{at_drop_all}
 use Rattle.std.proofs.lemmas.Result.{IfOk-weaker}
-use Rattle.notation.specs.Hex.{hex, pairs, figure}
+use Rattle.notation.specs.Hex.{pairs}
 use Rattle.notation.proofs.Pairs.{Bytes, pairs_more, hex_some, hex_none, reads_back, figure_ascii}
 use Rattle.notation.proofs.hex.hex.Goals as goal
 

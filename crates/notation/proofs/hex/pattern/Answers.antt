@@ -1,6 +1,6 @@
-use Rattle.std.proofs.Common.{◌≡◌, ◌<◌, not, get_or, is_some, Some, unwrap_or, sym, ap, ◌∙◌, arith, rules}
+use Rattle.std.proofs.Common.{◌<◌, not, get_or, is_some, Some, unwrap_or, sym, ap, ◌∙◌, arith}
 use Rattle.std.proofs.lemmas.List.{take_all}
-use Rattle.notation.specs.Hex.{digit, is_digit, value}
+use Rattle.notation.specs.Hex.{is_digit, value}
 use Rattle.notation.proofs.Every.{every_more, every_stops, every_all}
 use Rattle.notation.proofs.Pairs.{digit_small}
 use Rattle.notation.proofs.Patterns.{room_for_digit, power_more, value_more, no_digit, is_pattern}

@@ -1,4 +1,4 @@
-use Rattle.std.proofs.Common.{◌≡◌, sym, ◌∙◌}
+use Rattle.std.proofs.Common.{sym, ◌∙◌}
 use Rattle.packet.proofs.Readings.{begun, end_at, way_field, way_end, way_check, way_out}
 use Rattle.packet.proofs.reader.take_apart.Goals as goal
 

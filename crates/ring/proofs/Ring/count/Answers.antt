@@ -1,4 +1,4 @@
-use Rattle.std.proofs.Common.{◌≡◌, sym, ◌∙◌, arith}
+use Rattle.std.proofs.Common.{arith}
 use Rattle.ring.proofs.Spans.{length_held}
 use Rattle.ring.proofs.Ring.count.Goals as goal
 

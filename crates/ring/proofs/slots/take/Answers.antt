@@ -1,4 +1,4 @@
-use Rattle.std.proofs.Common.{refl, arith, rules}
+use Rattle.std.proofs.Common.{arith, rules}
 use Rattle.ring.proofs.Spans.{none_at, some_at, take_none, take_after}
 use Rattle.ring.proofs.slots.take.Goals as goal
 

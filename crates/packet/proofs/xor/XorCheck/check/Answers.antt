@@ -1,4 +1,4 @@
-use Rattle.std.proofs.Common.{◌≡◌, ℕ, ◌+◌, ◌%◌, [], ◌∷◌, get_or, sym, ap, ◌∙◌, take_all}
+use Rattle.std.proofs.Common.{ℕ, ◌+◌, ◌%◌, [], ◌∷◌, get_or, sym, ap, ◌∙◌, take_all}
 use lib.Bits.{bit_xor, xor_mod}
 use Rattle.std.proofs.lemmas.List.Sums.{fold_more}
 use Rattle.packet.specs.Checks.{xor_of}

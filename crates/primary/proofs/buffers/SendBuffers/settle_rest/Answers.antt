@@ -1,4 +1,4 @@
-use Rattle.std.proofs.Common.{◌≡◌, ◌-◌, length, ◌∙◌, arith, rules}
+use Rattle.std.proofs.Common.{◌-◌, ◌∙◌, arith, rules}
 use Rattle.std.proofs.lemmas.List.{nil_from_length}
 use Rattle.primary.specs.declared.outcome.Outcome.TheVariants.{NoConnection}
 use Rattle.primary.specs.Buffers.{message_in, slot, unsettled, uncollected}

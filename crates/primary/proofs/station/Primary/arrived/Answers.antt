@@ -19,4 +19,4 @@ returns c =
     let w = drop 1 (unsettled s.buffers) in
     let count = c.unsettled.ensures.value ∙ ap (λ (ms : List Message). length ms) c.settle.ensures.waits in
     let some : 0 < length w = omega (arith, count, c.if-unsettled-eq0.false) in
-    arrive_more (model s) (model c.send-next.new.self) w _ _ c.send-next.result some c.settle.ensures.waits c.settle.ensures.told c.send-next.ensures
+    arrive_more (model s) (model c.send_next.new.self) w _ _ c.send_next.result some c.settle.ensures.waits c.settle.ensures.told c.send_next.ensures

@@ -1,4 +1,4 @@
-use Rattle.std.proofs.Common.{◌≡◌, ℕ, ◌+◌, ◌<◌, List, length, sym, refl, ap, ◌∙◌, arith, rules}
+use Rattle.std.proofs.Common.{◌+◌, ◌<◌, List, length, sym, refl, ap, ◌∙◌, arith}
 use Rattle.packet.specs.Refusals.{gave}
 use Rattle.primary.specs.Buffers.{unsettled, uncollected}
 use Rattle.primary.specs.Model.{model}
@@ -30,6 +30,6 @@ returns c =
     let into = c.put.ensures in
     record {
       value = ap (λ (d : Did). gave d) (queues (model s) s.state ms _ _ c.args.message.now c.nothing.result some (omega arith) into.waits into.told c.nothing.ensures)
-          ∙ sym (admitted c.args.message.now _ _ _ _ (busy_on s.state ms some (omega arith)) same c.in-default.ensures.value);
+          ∙ sym (admitted c.args.message.now _ _ _ _ (busy_on s.state ms some (omega arith)) same c.in_default.ensures.value);
       unchanged = tt;
     }

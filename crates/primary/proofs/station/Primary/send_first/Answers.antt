@@ -1,7 +1,7 @@
-use Rattle.std.proofs.Common.{◌≡◌, ℕ, ◌+◌, false, List, length, refl, ap, arith, rules}
+use Rattle.std.proofs.Common.{◌≡◌, ◌+◌, false, List, length, refl, ap, arith}
 use Rattle.primary.specs.declared.station.State.{State}
 use Rattle.primary.specs.Buffers.{unsettled, uncollected}
-use Rattle.primary.specs.Model.{model, phase_of}
+use Rattle.primary.specs.Model.{phase_of}
 use Rattle.primary.specs.Station.{Message, is_off}
 use Rattle.primary.proofs.Cells.{denied}
 use Rattle.primary.proofs.Phases.{all_in, how_many}

@@ -1,4 +1,4 @@
-use Rattle.std.proofs.Common.{◌≡◌, ℕ, ◌<◌, List, ◌++◌, length, drop, sym, refl, ap, ◌∙◌, arith, rules}
+use Rattle.std.proofs.Common.{◌≡◌, ℕ, ◌<◌, List, ◌++◌, length, drop, ap, ◌∙◌, arith, rules}
 use Rattle.std.proofs.lemmas.List.{get_or_default}
 use Rattle.secondary.specs.Buffers.{text_of, blank}
 use Rattle.secondary.proofs.Rings.{first}
@@ -12,6 +12,6 @@ returns c =
     let within : t.oldest < length t.buffers = omega arith in
     let e = ap text_of (get_or_default t.buffers t.oldest c.index-self-self.result blank within) ∙ first t.buffers t.oldest at t.held c.requires.1 in
     record {
-      value = c.copy-to.ensures.value ∙ ap length e;
-      copied = c.copy-to.ensures.copied ∙ ap (λ (m : List ℕ). m ++ drop (length m) c.args.place.now) e;
+      value = c.copy_to.ensures.value ∙ ap length e;
+      copied = c.copy_to.ensures.copied ∙ ap (λ (m : List ℕ). m ++ drop (length m) c.args.place.now) e;
     }

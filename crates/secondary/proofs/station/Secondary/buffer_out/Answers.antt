@@ -1,4 +1,4 @@
-use Rattle.std.proofs.Common.{◌≡◌, ℕ, Bool, cond, Some, None, sym, ap, ◌∙◌}
+use Rattle.std.proofs.Common.{ℕ, Bool, cond, Some, None, sym, ap, ◌∙◌}
 use Rattle.secondary.specs.Station.{model, oldest_buffer}
 use Rattle.secondary.proofs.Turns.{oldest_is}
 use Rattle.secondary.proofs.station.Secondary.buffer_out.Goals as goal

@@ -1,15 +1,15 @@
-use Rattle.std.proofs.Common.{◌≡◌, ℕ, true, false, List, [], ◌∷◌, sym, refl, ap, ◌∙◌}
+use Rattle.std.proofs.Common.{◌≡◌, true, false, List, [], ◌∷◌, sym, refl, ◌∙◌}
 use Rattle.secondary.specs.declared.station.DeliverySlip.{DeliverySlip}
-use Rattle.secondary.specs.Station.{Station, model, freed, slip_out}
+use Rattle.secondary.specs.Station.{model, freed, slip_out}
 use Rattle.secondary.proofs.Turns.{wrong, wrong_kept, right, right_changed, freed_is, out_held}
 use Rattle.secondary.proofs.station.Secondary.give_back.Goals as goal
 
-pub returns-then-not-is-out : goal.returns-then-not-is-out
-returns-then-not-is-out c =
+pub returns-then-not-is_out : goal.returns-then-not-is_out
+returns-then-not-is_out c =
     let s = model c.args.self.now in
     let slip = c.args.slip in
     let ok = slip_out slip.line slip.buffer s in
-    let bad : ok ≡ false = sym c.if-not-is-out.ensures in
+    let bad : ok ≡ false = sym c.if-not-is_out.ensures in
     record {
       value = sym (wrong 24 tt tt ok bad);
       after = sym (wrong_kept 24 s (freed s) ok bad);
@@ -22,7 +22,7 @@ returns c =
     let s = model c.args.self.now in
     let slip = c.args.slip in
     let ok = slip_out slip.line slip.buffer s in
-    let yes : ok ≡ true = sym c.if-not-is-out.ensures in
+    let yes : ok ≡ true = sym c.if-not-is_out.ensures in
     let some = out_held c.args.self.now slip.line slip.buffer yes in
     let now = c.release.ensures in
     record {

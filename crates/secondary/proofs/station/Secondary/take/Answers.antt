@@ -1,6 +1,6 @@
-use Rattle.std.proofs.Common.{◌≡◌, ℕ, length, sym, refl, ap, ◌∙◌}
+use Rattle.std.proofs.Common.{ℕ, length, sym, refl, ap, ◌∙◌}
 use Rattle.packet.specs.Refusals.{gave}
-use Rattle.packet.proofs.Judging.{Passed, all_past, passed}
+use Rattle.packet.proofs.Judging.{all_past, passed}
 use Rattle.secondary.specs.Station.{model, take_rules, lent, copied, oldest_buffer}
 use Rattle.secondary.specs.Buffers.{oldest_of}
 use Rattle.secondary.proofs.Outs.{stays_out}
@@ -26,15 +26,15 @@ returns c =
     let s = model c.args.self.now in
     let place = c.args.place.now in
     let rules = take_rules (length place) s in
-    let pass = (passed rules _ _ c.in-default.ensures).0 in
+    let pass = (passed rules _ _ c.in_default.ensures).0 in
     let buffer = c.oldest.ensures ∙ sym (oldest_is c.args.self.now) in
     record {
       value =
-          ap (λ (n : ℕ). gave (n, s.line, c.oldest.result)) c.copy-oldest-length.ensures.value
+          ap (λ (n : ℕ). gave (n, s.line, c.oldest.result)) c.copy_oldest-length.ensures.value
           ∙ ap (λ (b : ℕ). gave (length (oldest_of s.held), s.line, b)) buffer
           ∙ sym (all_past rules _ pass);
       after = sym (changed rules s (lent s) pass);
-      copied = c.copy-oldest-length.ensures.copied ∙ sym (changed rules place (copied (oldest_of s.held) place) pass);
+      copied = c.copy_oldest-length.ensures.copied ∙ sym (changed rules place (copied (oldest_of s.held) place) pass);
       unchanged = tt;
       out = stays_out s.line c.oldest.result (lent s) (record { out = refl; line_is = refl; buffer_is = sym buffer; room = held_fits c.args.self.now });
     }

@@ -18,11 +18,11 @@ still_limited : (r : Result (Unit {0}) Refusal) (s s' : Settings) → s.attempt_
 still_limited (Ok x) s s' l taken kept = taken.attempts_high
 still_limited (Err x) s s' l taken kept = subst (λ (t : Settings). t.attempt_limit ≤ 20) (sym kept) l
 
-pub invariant-of-self : goal.invariant-of-self
-invariant-of-self g c =
+pub invariant_of-self : goal.invariant_of-self
+invariant_of-self g c =
     let s = c.args.self.now in
     let w = c.change.ensures in
-    (s.sendable, (still_limited c.change.result s.settings _ s.limited w.ranges w.unchanged, tt))
+    record { sendable = s.sendable; limited = still_limited c.change.result s.settings _ s.limited w.ranges w.unchanged }
 
 pub returns : goal.returns
 returns g c =

@@ -1,4 +1,4 @@
-use Rattle.std.proofs.Common.{◌≡◌, refl, ap, ◌∙◌}
+use Rattle.std.proofs.Common.{refl, ap, ◌∙◌}
 use Rattle.packet.specs.Refusals.{Answer}
 use Rattle.primary.specs.declared.station.Primary.{Primary}
 use Rattle.primary.specs.Model as primary
@@ -10,10 +10,10 @@ use Rattle.station.proofs.Same.{same_end}
 use Rattle.station.proofs.Sendable.{step_valid}
 use Rattle.station.proofs.end.End.hear.Goals as goal
 
-pub invariant-of-self : goal.invariant-of-self
-invariant-of-self g c =
+pub invariant_of-self : goal.invariant_of-self
+invariant_of-self g c =
     let s = c.args.self.now in
-    (step_valid s.settings.attempt_limit (primary.heard c.args.event) s.primary c.step.new.self c.step.result s.sendable c.step.ensures.value c.step.ensures.unchanged, (s.limited, tt))
+    record { sendable = step_valid s.settings.attempt_limit (primary.heard c.args.event) s.primary c.step.new.self c.step.result s.sendable c.step.ensures.value c.step.ensures.unchanged; limited = s.limited }
 
 pub returns-in-Err : goal.returns-in-Err
 returns-in-Err g c =

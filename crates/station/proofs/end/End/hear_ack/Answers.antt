@@ -1,4 +1,4 @@
-use Rattle.std.proofs.Common.{◌≡◌, ℕ, ap, ◌∙◌}
+use Rattle.std.proofs.Common.{ℕ, ap, ◌∙◌}
 use Rattle.packet.specs.Numbers.{is_one}
 use Rattle.primary.specs.Station.{Heard, ack}
 use Rattle.station.specs.End.{hears, left_by, placed_by, seen}
@@ -10,7 +10,7 @@ pub returns : goal.returns
 returns g c =
     let s = c.args.self.now in
     let e = model s in
-    let is = c.ack.ensures ∙ ap (λ (k : ℕ). ack (is_one c.args.number) k) c.credit-in.ensures in
+    let is = c.ack.ensures ∙ ap (λ (k : ℕ). ack (is_one c.args.number) k) c.credit_in.ensures in
     let w = c.hear.ensures in
     record {
       value = w.value ∙ ap (λ (h : Heard). seen (telling g.K.Check.meaning) (hears e h)) is;

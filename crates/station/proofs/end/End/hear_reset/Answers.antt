@@ -1,4 +1,4 @@
-use Rattle.std.proofs.Common.{◌≡◌, ap, ◌∙◌}
+use Rattle.std.proofs.Common.{ap, ◌∙◌}
 use Rattle.primary.specs.Station.{Heard}
 use Rattle.station.specs.End.{hears, left_by, placed_by, seen}
 use Rattle.station.specs.Models.{model}

@@ -1,5 +1,5 @@
 use Rattle.std.proofs.Common.{rules}
-use Rattle.station.proofs.Waiting.{in-time}
+use Rattle.station.proofs.Waiting.{in_time}
 use Rattle.station.proofs.end.End.submit.Goals as goal
 
 pub returns : goal.returns
@@ -9,5 +9,5 @@ returns g c =
       after = search rules;
       placed = search rules;
       unchanged = search rules;
-      in-time = in-time g.K.Check.size g.K.Check.meaning _ c.hear.new.self.limited;
+      in_time = in_time g.K.Check.size g.K.Check.meaning _ c.hear.new.self.limited;
     }

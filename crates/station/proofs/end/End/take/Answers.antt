@@ -1,4 +1,4 @@
-use Rattle.std.proofs.Common.{ℕ, IfOk, Ok, Err, Result, refl, rules}
+use Rattle.std.proofs.Common.{IfOk, Ok, Err, Result, refl, rules}
 use Rattle.secondary.specs.Laws as deliveries
 use Rattle.secondary.specs.Station as secondary
 use Rattle.station.specs.End.{with_secondary}

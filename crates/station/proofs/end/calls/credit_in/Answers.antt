@@ -5,5 +5,5 @@ none : (xs : List ℕ) → length xs < 1 → 0 ≡ get_or xs 0 0 - 0x30
 none [] h = refl
 none (x ∷ xs) h = absurd (omega arith)
 
-pub returns-then-is-empty : goal.returns-then-is-empty
-returns-then-is-empty c = none c.args.field.now (search rules)
+pub returns-then-is_empty : goal.returns-then-is_empty
+returns-then-is_empty c = none c.args.field.now (search rules)
