@@ -1,6 +1,6 @@
 -- Laws of the bursts in a ring of records.
 use Rattle.std.proofs.Common.{◌≡◌, ℕ, zero, suc, ◌+◌, ◌<◌, ◌≤◌, Bool, true, false, cond, ◌&&◌, ◌||◌, ltb, List, [], ◌∷◌, ◌++◌, map, length, get_or, drop, Some, None, sym, refl, ap, ◌∙◌, arith}
-use Rattle.std.specs.List.{slice_get, AllByRecursion as All}
+use Rattle.std.specs.List.{slice_get, AllByRecursion}
 use Rattle.std.proofs.lemmas.List.{length-map, map_push, length-take-le, at_drop_all}
 use Rattle.ring.specs.Ring.{elements}
 use Rattle.medium.specs.declared.burst.Burst.{Burst}
@@ -16,7 +16,7 @@ use Rattle.medium.proofs.Exact.{offered}
 record_carried : (r : Burst) → Carried (bytes_of r)
 record_carried r = let n = length-take-le r.len r.bytes r.carried.1 in (omega arith, omega arith)
 
-pub all_carried : (rs : List Burst) → All Carried (map bytes_of rs)
+pub all_carried : (rs : List Burst) → AllByRecursion Carried (map bytes_of rs)
 all_carried [] = tt
 all_carried (r ∷ rs) = (record_carried r, all_carried rs)
 

@@ -2,7 +2,7 @@
 #![tactic(auto)]
 
 ghost use Rattle.std.specs.Prelude.{◌≡◌, ℕ, ◌≤◌, List, [], ◌++◌, length, drop};
-ghost use Rattle.std.specs.List.{AllByRecursion as All};
+ghost use Rattle.std.specs.List.{AllByRecursion};
 ghost use Rattle.medium.specs.declared.offer.Offer.{Offer as Answer};
 ghost use Rattle.medium.specs.Bursts.{Carried, first, some_letter};
 ghost use Rattle.medium.specs.Letters.{command, answer};
@@ -39,7 +39,7 @@ pub trait Medium {
     // How many bursts are under way. Each has 1 to 104 bytes.
     fn count(&self) -> usize
         ensures value { result ≡ length (bursts self.now) }
-        ensures carried { All Carried (bursts self.now) };
+        ensures carried { AllByRecursion Carried (bursts self.now) };
 
     // Whether a burst under way has a command letter.
     fn holds_commands(&self) -> bool

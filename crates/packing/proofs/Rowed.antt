@@ -1,6 +1,6 @@
 -- Laws of bursts in a row of bytes.
 use Rattle.std.proofs.Common.{◌≡◌, ℕ, zero, suc, ◌+◌, ◌*◌, ◌/◌, ◌%◌, ◌<◌, ◌≤◌, Bool, true, false, cond, ◌&&◌, ltb, leb, ◌⊎◌, List, [], ◌∷◌, ◌++◌, length, take, drop, sym, refl, ap, ◌∙◌, subst, inl, inr, append_assoc, arith}
-use Rattle.std.specs.List.{AllByRecursion as All}
+use Rattle.std.specs.List.{AllByRecursion}
 use Rattle.std.proofs.lemmas.List.{length-append, take_at, drop_at, append-nil, length-take}
 use Rattle.std.proofs.lemmas.Bool.{lt-ltb, le-leb, ltb-true, leb-true, cond-true, and_from, and_parts, cases_Bool}
 use Rattle.std.proofs.lemmas.Nat.{div-add-mod'}
@@ -11,7 +11,7 @@ readable_is : (k n : ℕ) → 0 < k → k ≤ 104 → k ≤ n → readable k n �
 readable_is k n a b c = and_from _ _ (lt-ltb 0 k a) (and_from _ _ (le-leb k 104 b) (le-leb k n c))
 
 -- reading what was packed gives the bursts back
-unpacked_packed_at : (bs : List (List ℕ)) → All Carried bs → (n : ℕ) → length bs ≤ n → unpacked_at n (packed bs) ≡ bs
+unpacked_packed_at : (bs : List (List ℕ)) → AllByRecursion Carried bs → (n : ℕ) → length bs ≤ n → unpacked_at n (packed bs) ≡ bs
 unpacked_packed_at [] a zero h = refl
 unpacked_packed_at [] a (suc n) h = refl
 unpacked_packed_at (b ∷ bs) a zero h = absurd (omega arith)
@@ -29,11 +29,11 @@ length_packed : (bs : List (List ℕ)) → length bs ≤ length (packed bs)
 length_packed [] = omega arith
 length_packed (b ∷ bs) = omega (arith, length-append b (packed bs), length_packed bs)
 
-pub unpacked_packed : (bs : List (List ℕ)) → All Carried bs → unpacked (packed bs) ≡ bs
+pub unpacked_packed : (bs : List (List ℕ)) → AllByRecursion Carried bs → unpacked (packed bs) ≡ bs
 unpacked_packed bs a = unpacked_packed_at bs a (length (packed bs)) (length_packed bs)
 
 -- only bursts of 1 to 104 bytes are read
-unpacked_carried_at : (n : ℕ) (xs : List ℕ) → All Carried (unpacked_at n xs)
+unpacked_carried_at : (n : ℕ) (xs : List ℕ) → AllByRecursion Carried (unpacked_at n xs)
 unpacked_carried_at zero xs = tt
 unpacked_carried_at (suc n) [] = tt
 unpacked_carried_at (suc n) (h ∷ []) = tt
@@ -46,19 +46,19 @@ unpacked_carried_at (suc n) (h ∷ (l ∷ xs)) =
           let b = leb-true (h * 256 + l) 104 q.0 in
           let c = leb-true (h * 256 + l) (length xs) q.1 in
           let t = length-take (h * 256 + l) xs in
-          subst (λ (s : Bool). All Carried (cond s (take (h * 256 + l) xs ∷ unpacked_at n (drop (h * 256 + l) xs)) [])) (sym e)
+          subst (λ (s : Bool). AllByRecursion Carried (cond s (take (h * 256 + l) xs ∷ unpacked_at n (drop (h * 256 + l) xs)) [])) (sym e)
           ((omega arith, omega arith), unpacked_carried_at n (drop (h * 256 + l) xs))
-      | inr e ↦ subst (λ (s : Bool). All Carried (cond s (take (h * 256 + l) xs ∷ unpacked_at n (drop (h * 256 + l) xs)) [])) (sym e) tt
+      | inr e ↦ subst (λ (s : Bool). AllByRecursion Carried (cond s (take (h * 256 + l) xs ∷ unpacked_at n (drop (h * 256 + l) xs)) [])) (sym e) tt
     ]
 
-pub unpacked_carried : (xs : List ℕ) → All Carried (unpacked xs)
+pub unpacked_carried : (xs : List ℕ) → AllByRecursion Carried (unpacked xs)
 unpacked_carried xs = unpacked_carried_at (length xs) xs
 
 packed_push : (bs : List (List ℕ)) (b : List ℕ) → packed (bs ++ b ∷ []) ≡ packed bs ++ framed b
 packed_push [] b = append-nil (framed b)
 packed_push (c ∷ bs) b = ap (λ y. framed c ++ y) (packed_push bs b) ∙ sym (append_assoc (framed c) (packed bs) (framed b))
 
-all_push : (bs : List (List ℕ)) (b : List ℕ) → All Carried bs → Carried b → All Carried (bs ++ b ∷ [])
+all_push : (bs : List (List ℕ)) (b : List ℕ) → AllByRecursion Carried bs → Carried b → AllByRecursion Carried (bs ++ b ∷ [])
 all_push [] b a c = (c, tt)
 all_push (x ∷ bs) b a c = (a.0, all_push bs b a.1 c)
 
@@ -90,7 +90,7 @@ record Front (xs : List ℕ) : Type 0 where
   pub packs : Packs others
   pub reads : unpacked xs ≡ burst ∷ unpacked others
 
-front_of : (xs : List ℕ) (bs : List (List ℕ)) → All Carried bs → packed bs ≡ xs → (xs ≡ []) ⊎ Front xs
+front_of : (xs : List ℕ) (bs : List (List ℕ)) → AllByRecursion Carried bs → packed bs ≡ xs → (xs ≡ []) ⊎ Front xs
 front_of xs [] a e = inl (sym e)
 front_of xs (b ∷ bs) a e = inr record {
   burst = b;
