@@ -30,7 +30,7 @@ impl<M: Restart> Restart for &mut M {
 
 // Starts any such medium anew, a lent one too.
 pub(crate) fn start<M: Restart>(medium: &mut M, limit: usize)
-    ensures { starts medium.old limit medium.new }
+    ensures { M.starts medium.old limit medium.new }
 {
     medium.start_anew(limit);
 }

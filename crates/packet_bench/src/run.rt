@@ -42,7 +42,7 @@ pub fn run(heap: Global, call: PacketCall<'_>) -> Result<String, AllocError>
 }
 
 fn read_burst<K: Check>(heap: Global, burst: &[u8]) -> Result<String, AllocError>
-    ensures { IfOk result (λ s. string_bytes s ≡ read_line (reading size meaning burst.now)) }
+    ensures { IfOk result (λ s. string_bytes s ≡ read_line (reading K.size K.meaning burst.now)) }
 {
     match read::<K>(burst) {
         Ok(packet) => answer::read(heap, packet),
@@ -56,7 +56,7 @@ fn write_packet<K: Check>(
     field: &[u8],
     length: usize,
 ) -> Result<String, AllocError>
-    ensures { IfOk result (λ s. string_bytes s ≡ write_line (writing size letter field.now length) (packet meaning letter field.now)) }
+    ensures { IfOk result (λ s. string_bytes s ≡ write_line (writing K.size letter field.now length) (packet K.meaning letter field.now)) }
 {
     let mut place = values::place(heap, length)?;
     match write::<K>(letter, field, &mut place) {

@@ -13,7 +13,7 @@ pub returns-in_ok-place : goal.returns-in_ok-place
 returns-in_ok-place c =
     let e = open_end c.args.end.now in
     let s = kept c.args.slip.now in
-    let room : length c.deref-mut.result.now ≡ c.in-Take.size = ap length (c.deref-mut.ensures.value ∙ c.in_ok-place.ensures) ∙ length-replicate c.in-Take.size 0xee in
+    let room : length c.deref_mut.result.now ≡ c.in-Take.size = ap length (c.deref_mut.ensures.value ∙ c.in_ok-place.ensures) ∙ length-replicate c.in-Take.size 0xee in
     let is = ap call.take room ∙ ap call_of (sym c.in-Take.is) in
     record {
       printed = IfOk-weaker c.take.result _ _ (λ t h. h ∙ ap (λ k. call_line e s k) is) c.take.ensures.printed;
