@@ -9,11 +9,11 @@ use Rattle.end_bench.specs.Named.{open_end}
 use Rattle.answers.proofs.Leavings.{left}
 use Rattle.end_bench.proofs.ends.running.call_on.Goals as goal
 
-pub returns-in_ok-place : goal.returns-in_ok-place
-returns-in_ok-place c =
+pub returns-in_ok-place-in-Take : goal.returns-in_ok-place-in-Take
+returns-in_ok-place-in-Take c =
     let e = open_end c.args.end.now in
     let s = kept c.args.slip.now in
-    let room : length c.deref_mut.result.now ≡ c.in-Take.size = ap length (c.deref_mut.ensures.value ∙ c.in_ok-place.ensures) ∙ length-replicate c.in-Take.size 0xee in
+    let room : length c.deref_mut.result.now ≡ c.in-Take.size = ap length (c.deref_mut.ensures.value ∙ c.in_ok-place-in-Take.ensures) ∙ length-replicate c.in-Take.size 0xee in
     let is = ap call.take room ∙ ap call_of (sym c.in-Take.is) in
     record {
       printed = IfOk-weaker c.take.result _ _ (λ t h. h ∙ ap (λ k. call_line e s k) is) c.take.ensures.printed;
