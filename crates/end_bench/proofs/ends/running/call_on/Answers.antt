@@ -1,9 +1,9 @@
 use Rattle.std.proofs.Common.{◌≡◌, length, sym, ap, ◌∙◌}
-use lib.ListN.{length-replicate}
+use Rattle.std.proofs.lemmas.List.{length-replicate}
 use Rattle.std.proofs.lemmas.Result.{IfOk-weaker}
 use Rattle.end_script.specs.Calls as call
 use Rattle.end_script.specs.Told.{call_of}
-use Rattle.end_bench.specs.Calls.{call_line, both, both_after}
+use Rattle.end_bench.specs.Calls.{call_line, both_after}
 use Rattle.end_bench.specs.Fair.{kept}
 use Rattle.end_bench.specs.Named.{open_end}
 use Rattle.answers.proofs.Leavings.{left}

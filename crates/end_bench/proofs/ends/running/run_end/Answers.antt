@@ -1,5 +1,5 @@
 use Rattle.end_script.specs.Told.{call_of}
-use Rattle.end_bench.specs.Calls.{both, both_after}
+use Rattle.end_bench.specs.Calls.{both}
 use Rattle.end_bench.specs.Fair.{kept, lent}
 use Rattle.end_bench.specs.Named.{open_end}
 use Rattle.end_bench.proofs.Fairness.{fair_a_a, fair_a_b, fair_b_a, fair_b_b}
