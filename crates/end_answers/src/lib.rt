@@ -1,6 +1,6 @@
 // What is printed for calls on an end of a line, and for its settings.
 #![tactic(auto)]
 
+pub mod printed_settings;
 pub mod report;
-pub mod settings;
 pub mod state;

@@ -6,7 +6,7 @@ ghost use Rattle.primary.specs.Station.{Phase};
 ghost use Rattle.station.specs.Models.{model};
 ghost use Rattle.end_answers.specs.States.{state_text, number_digit, last_text, out_text, sender, receiver, state_line};
 
-use crate::settings::values;
+use crate::printed_settings::values;
 use packet::checks::Check;
 use packet::number::Number;
 use primary::station::State;

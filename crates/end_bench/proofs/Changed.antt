@@ -1,5 +1,5 @@
 -- What is printed for a change of settings, from what the call told. Assumes nothing.
-use Rattle.std.proofs.Common.{◌≡◌, ℕ, List, sym, refl, ap, ◌∙◌}
+use Rattle.std.proofs.Common.{◌≡◌, refl, ap, ◌∙◌}
 use Rattle.packet.specs.Refusals.{Answer, refused, gave}
 use Rattle.settings.specs.Frame.{told}
 use Rattle.settings.specs.declared.values.Settings.{Settings}

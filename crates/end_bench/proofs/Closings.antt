@@ -1,5 +1,5 @@
 -- Two slips that are fairly kept are given back one after the other. Assumes nothing.
-use Rattle.std.proofs.Common.{◌≡◌, ◌⊎◌, None, Option, sym, ◌∙◌, inl, inr}
+use Rattle.std.proofs.Common.{◌≡◌, None, Option, sym, ◌∙◌, inl, inr}
 use Rattle.end_bench.specs.Closing.{Fits, GivenToOne}
 use Rattle.end_bench.specs.Fair.{Slip}
 use Rattle.end_bench.proofs.Fairness.{Fair}

@@ -1,5 +1,5 @@
 -- The delivery that an end has out, over the calls that leave it out. Assumes nothing.
-use Rattle.std.proofs.Common.{◌≡◌, ℕ, ◌+◌, ◌-◌, ◌%◌, ◌<◌, min, Bool, true, false, cond, not, ◌&&◌, eqb, ltb, List, [], ◌∷◌, ◌++◌, length, get_or, Some, None, Option, sym, refl, ap, ◌∙◌, arith, length-append}
+use Rattle.std.proofs.Common.{◌≡◌, ℕ, ◌+◌, ◌-◌, ◌%◌, ◌<◌, min, Bool, true, false, cond, not, eqb, ltb, List, [], ◌∷◌, length, get_or, Some, None, Option, refl, ap, arith, length-append}
 use Rattle.std.proofs.lemmas.Bool.Decides.{nat_tests}
 use Rattle.packet.specs.declared.number.Number.{Number}
 use Rattle.packet.specs.declared.number.Number.TheVariants.{Zero, One}
@@ -9,7 +9,7 @@ use Rattle.packet.specs.Refusals.{Answer, refused, gave, ◌⇒◌, judged}
 use Rattle.primary.specs.Station as primary
 use Rattle.primary.specs.Table.{step_of}
 use Rattle.secondary.specs.declared.reply.Response.{Response}
-use Rattle.secondary.specs.Station.{Station, or_kept, free_buffers, oldest_buffer, stored}
+use Rattle.secondary.specs.Station.{Station, or_kept, free_buffers, stored}
 use Rattle.settings.specs.declared.values.Settings.{Settings}
 use Rattle.station.specs.End.{End, limit, hears, by_primary, by_secondary, enq_heard, data_heard, after_reading, arrival, left_by, set_by, seen}
 use Rattle.end_bench.specs.Fair.{Slip, lent_by}

@@ -1,5 +1,5 @@
 -- The end of a name after an opening. Assumes nothing.
-use Rattle.std.proofs.Common.{◌≡◌, ℕ, Some, sym, refl, ap, ◌∙◌}
+use Rattle.std.proofs.Common.{◌≡◌, ℕ, Some, sym, refl, ap}
 use Rattle.packet.specs.Refusals.{Answer, refused, gave}
 use Rattle.packet.proofs.Judging.{never}
 use Rattle.script_words.specs.declared.words.Kind.{Kind}

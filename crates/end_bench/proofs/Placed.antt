@@ -1,5 +1,5 @@
 -- A burst that a call wrote into its place, read from there. Assumes nothing.
-use Rattle.std.proofs.Common.{◌≡◌, ℕ, List, ◌++◌, length, take, drop, refl, ap, ◌∙◌}
+use Rattle.std.proofs.Common.{◌≡◌, ℕ, List, ◌++◌, length, drop, refl, ap, ◌∙◌}
 use Rattle.std.proofs.lemmas.List.{take_at}
 use Rattle.packet.specs.Refusals.{Answer, refused, gave}
 use Rattle.station.specs.End.{Done, burst, placed_by, seen}

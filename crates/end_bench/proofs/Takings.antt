@@ -1,10 +1,10 @@
 -- A delivery that was taken to a place, read from there. Assumes nothing.
-use Rattle.std.proofs.Common.{◌≡◌, ℕ, ◌-◌, ◌≤◌, Bool, true, false, List, ◌++◌, length, take, drop, sym, refl, ap, ◌∙◌, arith, length-append}
+use Rattle.std.proofs.Common.{◌≡◌, ℕ, ◌-◌, ◌≤◌, false, List, ◌++◌, length, take, drop, sym, ap, ◌∙◌, arith, length-append}
 use Rattle.std.proofs.lemmas.List.{take_at}
 use Rattle.packet.specs.Refusals.{gave}
 use Rattle.packet.proofs.Judging.{Passed, passed}
 use Rattle.secondary.specs.Buffers.{oldest_of}
-use Rattle.secondary.specs.Station.{Station, take_rules, take_answer, place_after, copied, oldest_buffer}
+use Rattle.secondary.specs.Station.{Station, take_rules, take_answer, place_after, copied}
 use Rattle.secondary.proofs.Turns.{changed}
 use Rattle.end_bench.specs.Calls.{take_line}
 

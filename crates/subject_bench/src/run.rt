@@ -7,7 +7,7 @@ ghost use Rattle.subject_bench.specs.Told.{bench_of};
 
 use crate::command::{Command, parse};
 use answers::print;
-use end_answers::settings::run_settings;
+use end_answers::printed_settings::run_settings;
 use end_bench::ends::Ends;
 use end_bench::ends::running::run_end;
 use named_media::media::Media;
