@@ -1,5 +1,5 @@
 -- The three kinds of media, each in a name's words. Assumes nothing.
-use Rattle.std.proofs.Common.{◌≡◌, ℕ, ◌+◌, ◌-◌, ◌%◌, ◌^◌, min, Bool, true, false, cond, not, ◌&&◌, leb, List, [], ◌∷◌, ◌++◌, length, drop, sym, refl, ap, ◌∙◌, arith, length-drop, Bor}
+use Rattle.std.proofs.Common.{◌≡◌, ℕ, ◌+◌, ◌-◌, ◌%◌, ◌^◌, min, Bool, true, false, cond, not, ◌&&◌, leb, List, [], ◌∷◌, ◌++◌, length, drop, sym, refl, ap, ◌∙◌, arith, length-drop, MutBor}
 use Rattle.ring.specs.Ring as ring
 use Rattle.ring.specs.declared.Ring.{Ring}
 use Rattle.medium.specs.declared.offer.Offer.{Offer}
@@ -68,7 +68,7 @@ noisy_reached m m' b r e t =
       size = same_memory m.queue.ring m'.queue.ring t.kept.places t.kept.beyond;
     }
 
-pub packed_offered : (m m' : Bor PackedMedium) (p p' : ℕ) (b : List ℕ) (r : Offer) → Passes (λ m b r n. packed.PacksIn m.now b r n.now) m p b r m' p' → Does (a_packed m.now p) (a_packed m'.now p') (length (ring.memory m.now.ring)) (length (ring.memory m'.now.ring)) b r
+pub packed_offered : (m m' : MutBor PackedMedium) (p p' : ℕ) (b : List ℕ) (r : Offer) → Passes (λ m b r n. packed.PacksIn m.now b r n.now) m p b r m' p' → Does (a_packed m.now p) (a_packed m'.now p') (length (ring.memory m.now.ring)) (length (ring.memory m'.now.ring)) b r
 packed_offered = layered (λ m b r n. packed.PacksIn m.now b r n.now) (λ m. base.Packed (ring.places m.now.ring)) (λ m. 0) (λ m. packed.carries m.now) (λ m. length (ring.memory m.now.ring)) (λ m m' b r. packed_reached m.now m'.now b r)
 
 pub noisy_offered : (m m' : NoisyMedium) (p p' : ℕ) (b : List ℕ) (r : Offer) → Passes Sends m p b r m' p' → Does (a_noisy m p) (a_noisy m' p') (length (queue.memory m.queue)) (length (queue.memory m'.queue)) b r
