@@ -1,5 +1,5 @@
 -- What a format writes, in the words of the specs. Assumes nothing.
-use Rattle.std.proofs.Common.{◌≡◌, ℕ, List, [], ◌∷◌, ◌++◌, length, codes, decimal, sym, refl, ap, ◌∙◌}
+use Rattle.std.proofs.Common.{◌≡◌, ℕ, List, [], ◌∷◌, ◌++◌, length, codes, decimal, refl}
 use lib.Utf8.{encode}
 use Rattle.notation.specs.Hex.{hex}
 use Rattle.packet.specs.Bytes.{byte_of}

@@ -1,5 +1,5 @@
 -- How a packed medium starts anew. Assumes nothing.
-use Rattle.std.specs.Prelude.{◌≡◌, ℕ, min, List, [], length}
+use Rattle.std.specs.Prelude.{◌≡◌, ℕ, min, [], length}
 use Rattle.ring.specs.Ring.{places, memory}
 use Rattle.packing.specs.Packed.{carries}
 use Rattle.packing.specs.declared.packed.PackedMedium.{PackedMedium}

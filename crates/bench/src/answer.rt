@@ -1,6 +1,6 @@
 // What is printed for a call's answer.
 ghost use Rattle.std.specs.Prelude.{◌≡◌, ◌++◌, length, IfOk, string_bytes, decimal};
-ghost use Rattle.packet.specs.Packets.{told as packet-told};
+ghost use Rattle.packet.specs.Packets.{told as packet_told};
 ghost use Rattle.packet.specs.Refusals.{gave, number_of};
 ghost use Rattle.bench.specs.Printed.{end, refusal, read_line, write_line, offer_line, holds_line, wrong};
 
@@ -19,7 +19,7 @@ pub fn refused(heap: Global, why: Refusal) -> Result<String, AllocError>
 }
 
 pub fn read(heap: Global, packet: Packet<'_>) -> Result<String, AllocError>
-    ensures { IfOk result (λ s. string_bytes s ≡ read_line (gave (packet-told packet.entry))) }
+    ensures { IfOk result (λ s. string_bytes s ≡ read_line (gave (packet_told packet.entry))) }
 {
     let letter = packet.letter.byte() as char;
     let place = packet.place;

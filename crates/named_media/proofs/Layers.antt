@@ -1,7 +1,6 @@
 -- An offer to any medium under a layer of loss. Assumes nothing.
-use Rattle.std.proofs.Common.{◌≡◌, ℕ, Bool, true, false, cond, not, ◌&&◌, List, [], ◌∷◌, ◌++◌, sym, refl, ap, ◌∙◌}
+use Rattle.std.proofs.Common.{◌≡◌, ℕ, Bool, true, false, cond, not, ◌&&◌, List, [], ◌∷◌, ◌++◌, refl, ap}
 use Rattle.medium.specs.declared.offer.Offer.{Offer}
-use Rattle.medium.specs.declared.offer.Offer.TheVariants.{Spoilt}
 use Rattle.medium.specs.Bursts.{carried}
 use Rattle.medium.specs.Offered.{whole_if}
 use Rattle.medium_script.specs.declared.spec.Base.{Base}

@@ -1,5 +1,5 @@
 -- The three kinds of media, each in a name's words. Assumes nothing.
-use Rattle.std.proofs.Common.{◌≡◌, ℕ, ◌+◌, ◌-◌, ◌%◌, ◌^◌, min, Bool, true, false, cond, not, ◌&&◌, leb, List, [], ◌∷◌, ◌++◌, length, drop, sym, refl, ap, ◌∙◌, arith, length-drop, MutBor}
+use Rattle.std.proofs.Common.{◌≡◌, ℕ, ◌+◌, ◌%◌, ◌^◌, min, Bool, true, cond, not, ◌&&◌, leb, List, [], ◌∷◌, ◌++◌, length, drop, sym, refl, ap, ◌∙◌, arith, length-drop, MutBor}
 use Rattle.ring.specs.Ring as ring
 use Rattle.ring.specs.declared.Ring.{Ring}
 use Rattle.medium.specs.declared.offer.Offer.{Offer}

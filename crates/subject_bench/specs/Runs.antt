@@ -8,8 +8,8 @@ use Rattle.end_answers.specs.Settings.{settings_line}
 use Rattle.end_bench.specs.Bench as ends
 use Rattle.medium_bench.specs.Leaving as media
 use Rattle.named_media.specs.Media.{Named}
-use Rattle.medium_bench.specs.Printed as media-lines
-use Rattle.packet_bench.specs.Printed as packet-lines
+use Rattle.medium_bench.specs.Printed as media_lines
+use Rattle.packet_bench.specs.Printed as packet_lines
 use Rattle.settings.specs.Frame.{settings_of}
 use Rattle.subject_bench.specs.Commands.{Request, nothing, packet, settings, end, medium, command_of}
 
@@ -20,10 +20,10 @@ pub record Bench : Type 0 where
 
 abbrev pub answered : Bench → Request → List ℕ
 answered w nothing = []
-answered w (packet call) = packet-lines.printed call
+answered w (packet call) = packet_lines.printed call
 answered w (settings frame) = settings_line (settings_of frame)
 answered w (end command) = ends.printed w.ends command
-answered w (medium command) = media-lines.printed w.media command
+answered w (medium command) = media_lines.printed w.media command
 
 abbrev pub said : Bench → Result Request Fault → List ℕ
 said w (Ok r) = answered w r

@@ -1,5 +1,4 @@
 -- What the code's commands and its workbench stand for. Assumes nothing.
-use Rattle.named_media.specs.Media.{Named}
 use Rattle.named_media.specs.Model.{models}
 use Rattle.end_bench.specs.Models as ends
 use Rattle.end_script.specs.Told.{command_of}

@@ -1,6 +1,6 @@
 // The start and the end of a script.
 ghost use Rattle.std.specs.Prelude.{◌≡◌, None};
-ghost use Rattle.station.specs.Models.{model as end-model};
+ghost use Rattle.station.specs.Models.{model as end_model};
 ghost use Rattle.end_bench.specs.Bench.{empty};
 ghost use Rattle.end_bench.specs.Closing.{GivenBack, Fits, GivenToOne};
 ghost use Rattle.end_bench.specs.Fair.{numbers, kept, lent_by, lent};
@@ -80,7 +80,7 @@ fn give_back(end: &mut NamedEnd, slip: DeliverySlip) -> Result<(), DeliverySlip>
 }
 
 fn give_back_to<K: Check>(end: &mut End<K>, slip: DeliverySlip) -> Result<(), DeliverySlip>
-    ensures { GivenBack result (numbers slip) (lent_by (end-model end.old).secondary) (lent_by (end-model end.new).secondary) }
+    ensures { GivenBack result (numbers slip) (lent_by (end_model end.old).secondary) (lent_by (end_model end.new).secondary) }
 {
     match end.give_back(slip) {
         Ok(()) => Ok(()),

@@ -8,7 +8,7 @@ ghost use Rattle.packet.specs.Refusals.{answer, gave};
 ghost use Rattle.packet.specs.Numbers.{is_one};
 ghost use Rattle.primary.specs.Model.{did, heard};
 ghost use Rattle.primary.specs.Station.{ack, reset};
-ghost use Rattle.secondary.specs.Station.{model as secondary-model};
+ghost use Rattle.secondary.specs.Station.{model as secondary_model};
 ghost use Rattle.station.specs.End.{by_primary, by_secondary, answer_parts, timed, burst, written_over, hears, submission, timeout, enq_heard, data_heard, dispatched, arrival, left_by, placed_by, seen};
 ghost use Rattle.station.specs.Answerable.{Answerable};
 ghost use Rattle.station.specs.Models.{model};
@@ -107,7 +107,7 @@ impl<K: Check> End<K> {
     // Sends an answer of the secondary station, and tells of it.
     fn respond(&self, response: Response, place: &mut [u8; 104]) -> Report
         requires { Answerable response }
-        ensures value { told result ≡ telling K.Check.meaning (by_secondary (model self.now) (secondary-model self.now.secondary) response) }
+        ensures value { told result ≡ telling K.Check.meaning (by_secondary (model self.now) (secondary_model self.now.secondary) response) }
         ensures placed { place.new ≡ written_over (burst K.Check.meaning (answer_parts response)) place.old }
     {
         let mut report = Report {
