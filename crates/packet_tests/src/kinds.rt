@@ -2,9 +2,9 @@
 ghost use Rattle.packet_tests.specs.Kinds.{pair_check, five_check};
 ghost use Rattle.packet.specs.Checks.{sum_check, xor_check};
 ghost use Rattle.packet.specs.Folds.{xor_marked, sum_tells};
-ghost use Rattle.packet_tests.specs.Marks.{both_marked, sum_marked};
+ghost use Rattle.packet_tests.specs.Marks.{both_marked, sum_marked, five_marked};
 ghost use Rattle.std.proofs.Common.{ap, rules};
-ghost use Rattle.std.specs.Prelude.{◌++◌, take};
+ghost use Rattle.std.specs.Prelude.{take};
 
 use packet::checks::Check;
 use packet::sum::Sum;
@@ -57,10 +57,7 @@ impl Check for Five {
 
     ghost sized = { Prim.search rules };
 
-    ghost marked = { λ xs.
-        both_marked (sum_check xs) (xor_check xs ++ (xor_check xs ++ (sum_check xs ++ sum_check xs))) (sum_marked xs)
-        (both_marked (xor_check xs) (xor_check xs ++ (sum_check xs ++ sum_check xs)) (xor_marked xs)
-        (both_marked (xor_check xs) (sum_check xs ++ sum_check xs) (xor_marked xs) (both_marked (sum_check xs) (sum_check xs) (sum_marked xs) (sum_marked xs)))) };
+    ghost marked = { five_marked };
 
     ghost tells = { λ xs ys h g a e. sum_tells xs ys h g a (ap (take 1) e) };
 
