@@ -3,9 +3,10 @@
 
 usage: python3 tools/respell.py [FOLDER]     FOLDER is a checkout that port.py has turned; this one where it is left out
 
-A name that specs/ or a lemma file of proofs/ declares with a hyphen gets snake case (is-blank: is_blank), and camel case
+A name that specs/ or proofs/ declares with a hyphen gets snake case (is-blank: is_blank; ACK-0: ACK_0), and camel case
 where it begins with a capital, as types and facts do (Altered-refused: AlteredRefused). Names that Rattle makes (goals
-and steps), names of the library, functions of src/, strings and comments keep theirs. It prints names that fall together.
+and steps), names of the library, functions of src/, strings and comments keep theirs. It prints each name with its new
+spelling, and before them names that fall together and new spellings that stand somewhere already.
 """
 
 import os
