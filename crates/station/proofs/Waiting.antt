@@ -17,7 +17,7 @@ use Rattle.station.specs.Runs.{Call, Submit, Arrive, Expire, Take, Give, Collect
 use Rattle.station.specs.Waits.{settles, timeouts, call_settles, outcome_comes, InTime}
 
 -- a step that gave the current message no outcome: it is still under way, and the attempts have not fallen below 255
-pub record Goes_on (s : primary.Station) (d : primary.Did) : Type 0 where
+pub record GoesOn (s : primary.Station) (d : primary.Did) : Type 0 where
   pub under_way : ends.awaiting d.next.phase ≡ true
   pub tried : min s.attempts 255 ≤ d.next.attempts
 
@@ -32,14 +32,14 @@ never : {A : Type 0} (b : Bool) → b ≡ true → b ≡ false → A
 never b p q = absurd (false≢true (sym q ∙ p))
 
 -- one of two ways, the first of which settles
-way : (s : primary.Station) (b : Bool) (x y : primary.Did) → settled x ≡ true → Goes_on s y → settled (cond b x y) ≡ false → Goes_on s (cond b x y)
+way : (s : primary.Station) (b : Bool) (x y : primary.Did) → settled x ≡ true → GoesOn s y → settled (cond b x y) ≡ false → GoesOn s (cond b x y)
 way s true x y p g q = never (settled x) p q
 way s false x y p g q = g
 
-stays : (s : primary.Station) → ends.awaiting s.phase ≡ true → Goes_on s (rests s)
+stays : (s : primary.Station) → ends.awaiting s.phase ≡ true → GoesOn s (rests s)
 stays s w = record { under_way = w; tried = omega arith }
 
-cell_on : (M : ℕ) (s : primary.Station) (ph : primary.Phase) (h : primary.Heard) → s.phase ≡ ph → ends.awaiting ph ≡ true → settled (cell M s ph h) ≡ false → Goes_on s (cell M s ph h)
+cell_on : (M : ℕ) (s : primary.Station) (ph : primary.Phase) (h : primary.Heard) → s.phase ≡ ph → ends.awaiting ph ≡ true → settled (cell M s ph h) ≡ false → GoesOn s (cell M s ph h)
 cell_on M s primary.off h e w q = never false w refl
 cell_on M s primary.ready h e w q = never false w refl
 cell_on M s (primary.waiting c ms) (primary.submission m) e w q = record { under_way = refl; tried = omega arith }
@@ -81,7 +81,7 @@ step_kept e h w = go (step_of e.settings.attempt_limit e.primary h) refl
         let s = e.primary in
         let M = e.settings.attempt_limit in
         let made = (passed (rules h s) (cell M (hears h s) s.phase h) d is).1 in
-        let on = subst (λ (x : primary.Did). settled x ≡ false → Goes_on (hears h s) x) made (cell_on M (hears h s) s.phase h (same_phase h s) w) q in
+        let on = subst (λ (x : primary.Did). settled x ≡ false → GoesOn (hears h s) x) made (cell_on M (hears h s) s.phase h (same_phase h s) w) q in
         let a = same_attempts h s in
         record { under_way = on.under_way; limit = refl; tried = subst (λ (n : ℕ). min n 255 ≤ d.next.attempts) a on.tried }
 
