@@ -14,8 +14,6 @@ pub fn read_out(station: &mut Secondary, place: &mut [u8]) -> Result<usize, Refu
     ensures unchanged { OnErr result (station.new ≡ station.old) }
 {
     let (length, slip) = station.take(place)?;
-    match station.give_back(slip) {
-        Ok(()) => Ok(length),
-        Err((_, _slip)) => unreachable(),
-    }
+    station.give_back(slip).unwrap();
+    Ok(length)
 }
