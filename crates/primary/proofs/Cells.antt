@@ -57,8 +57,8 @@ give_up s w os n e told count is =
 -- a submission to a station that is not off, with k buffers in use
 module _ (m : Message) (is : Bool) (k k' : ℕ) (d : Did) (on : is ≡ false) (same : k ≡ k') where
   -- what the send buffers answered
-  abbrev taken_in : Answer (Unit {0})
-  taken_in = judged (message_rules m ++ room_rules k') (tt {0})
+  abbrev taken_in : Answer Message
+  taken_in = judged (message_rules m ++ room_rules k') m
 
   not_off : judged (message_rules m ++ (is ⇒ 18 ∷ room_rules k)) d ≡ judged (message_rules m ++ room_rules k') d
   not_off =
@@ -66,10 +66,10 @@ module _ (m : Message) (is : Bool) (k k' : ℕ) (d : Did) (on : is ≡ false) (s
       ∙ ap (λ (n : ℕ). judged (message_rules m ++ room_rules n) d) same
 
   pub denied : (n : ℕ) → refused n ≡ taken_in → refused n ≡ judged (message_rules m ++ (is ⇒ 18 ∷ room_rules k)) d
-  denied n e = sym (not_off ∙ front_refuses (message_rules m ++ room_rules k') [] d (tt {0}) n e)
+  denied n e = sym (not_off ∙ front_refuses (message_rules m ++ room_rules k') [] d m n e)
 
-  pub admitted : gave (tt {0}) ≡ taken_in → judged (message_rules m ++ (is ⇒ 18 ∷ room_rules k)) d ≡ gave d
-  admitted e = not_off ∙ all_past (message_rules m ++ room_rules k') d (passed (message_rules m ++ room_rules k') (tt {0}) (tt {0}) e).0
+  pub admitted : (x : Message) → gave x ≡ taken_in → (judged (message_rules m ++ (is ⇒ 18 ∷ room_rules k)) d ≡ gave d) × (x ≡ m)
+  admitted x e = let p = passed (message_rules m ++ room_rules k') m x e in (not_off ∙ all_past (message_rules m ++ room_rules k') d p.0, sym p.1)
 
 -- a message is under way
 pub busy_on : (st : State) (ms : List Message) → 0 < length ms → length ms ≤ 8 * under_way st → is_off (phase_of st ms) ≡ false

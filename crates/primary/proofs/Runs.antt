@@ -92,9 +92,6 @@ module _ {X : Type 0} (F : SendBuffer → X) (bs : List SendBuffer) (h : ℕ) (a
       ∙ ap (λ (ys : List X). seen bs 0 ∷ ys) (sym (turn 0 (d - 1)))
       ∙ ap (λ (j : ℕ). F (get_or bs j blank) ∷ run turned 0 (d - 1)) z
 
-pub filled : (w rest m : List ℕ) → w ≡ m → take (length m) (w ++ rest) ≡ m
-filled w rest m e = take_at w rest (length m) (ap length e) ∙ e
-
 -- the rest of the messages p get the outcome x, one by one
 module _ {X Y : Type 0} (x : X) where
   pub rest_step : (o o' : List X) (p p' : List Y) → 0 < length p → p' ≡ drop 1 p → o' ≡ o ++ x ∷ [] → o' ++ replicate (length p') x ≡ o ++ replicate (length p) x

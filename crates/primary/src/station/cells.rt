@@ -9,7 +9,7 @@ ghost use Rattle.primary.specs.Rules.{oldest};
 ghost use Rattle.primary.specs.Station.{ready, submission, ack};
 ghost use Rattle.primary.specs.Table.{at, moved, credited, rests, asks, sends_again, sends_next, arrives, gives_up, expires, cell, step_of, collected};
 
-use crate::buffers::ring::check_message;
+use crate::buffers::ring::sendable;
 use crate::event::{Event, Step};
 use crate::outcome::{Outcome, Tally};
 use crate::station::{Primary, State};
@@ -160,7 +160,7 @@ impl Primary {
         requires { self.now.state ≡ Off }
         ensures { (answer (did self.now) result ≡ step_of 0 (model self.now) (submission message.now)) × (is_err result ≡ true) }
     {
-        check_message(message)?;
+        sendable(message)?;
         Err(Refusal::NotConnected)
     }
 
@@ -170,8 +170,8 @@ impl Primary {
         ensures value { answer (did self.new) result ≡ step_of 0 (model self.old) (submission message.now) }
         ensures unchanged { OnErr result (self.new ≡ self.old) }
     {
-        self.buffers.admit(message)?;
-        self.buffers.put(message);
+        let kept = self.buffers.admit(message)?;
+        self.buffers.put(kept);
         self.state = State::Waiting;
         Ok(self.send_next())
     }
@@ -182,8 +182,8 @@ impl Primary {
         ensures value { answer (did self.new) result ≡ step_of 0 (model self.old) (submission message.now) }
         ensures unchanged { OnErr result (self.new ≡ self.old) }
     {
-        self.buffers.admit(message)?;
-        self.buffers.put(message);
+        let kept = self.buffers.admit(message)?;
+        self.buffers.put(kept);
         Ok(Step::default())
     }
 

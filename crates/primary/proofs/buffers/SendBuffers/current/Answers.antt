@@ -1,4 +1,4 @@
-use Rattle.std.proofs.Common.{◌≡◌, ℕ, ◌+◌, ◌-◌, ◌%◌, ◌<◌, length, take, Some, sym, ap, ◌∙◌, arith, rules}
+use Rattle.std.proofs.Common.{◌≡◌, ℕ, ◌+◌, ◌-◌, ◌%◌, ◌<◌, List, length, Some, sym, ap, ◌∙◌, arith, rules}
 use Rattle.std.proofs.lemmas.List.{get_or_default}
 use Rattle.primary.specs.declared.buffers.SendBuffer.{SendBuffer}
 use Rattle.primary.specs.Buffers.{message_in, slot, blank}
@@ -12,8 +12,7 @@ returns c =
     let place = t.place in
     let order = t.order in
     let within : (t.head + t.done) % 8 < length t.buffers = omega arith in
-    let all : (slot t t.done).len - 0 ≡ (slot t t.done).len = omega arith in
     let some : 0 < t.used - t.done = search rules in
-    ap (λ (b : SendBuffer). Some (take (b.len - 0) b.text)) (get_or_default t.buffers ((t.head + t.done) % 8) c.index-self-self.result blank within)
-    ∙ ap (λ (n : ℕ). Some (take n (slot t t.done).text)) all
+    ap (λ (m : List ℕ). Some m) c.as_slice.ensures.bytes
+    ∙ ap (λ (b : SendBuffer). Some (message_in b)) (get_or_default t.buffers ((t.head + t.done) % 8) c.index-self-self.result blank within)
     ∙ sym (run_first (λ k. message_in (slot t k)) t.done (t.used - t.done) some)
