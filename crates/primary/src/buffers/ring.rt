@@ -88,7 +88,11 @@ impl SendBuffers {
         if self.done == self.used {
             return None;
         }
-        Some(self.buffers[(self.head + self.done) % CAPACITY].message.as_slice())
+        Some(
+            self.buffers[(self.head + self.done) % CAPACITY]
+                .message
+                .as_slice(),
+        )
     }
 
     // The oldest message without outcome gets one.
