@@ -1,9 +1,10 @@
 // The send buffers' methods, by the two lists that the ring stands for.
 ghost use Rattle.std.specs.Prelude.{◌≡◌, ℕ, ◌+◌, ◌-◌, ◌<◌, ◌≤◌, List, [], ◌∷◌, ◌++◌, length, drop, replicate, OnOk, OnSome};
+ghost use Rattle.std.specs.List.{slice_get};
 ghost use Rattle.std.specs.Option.{option_map};
 ghost use Rattle.buffer.specs.Buffers.{contents};
 ghost use Rattle.packet.specs.Refusals.{answer, judged};
-ghost use Rattle.primary.specs.Buffers.{unsettled, uncollected, first, Accepted};
+ghost use Rattle.primary.specs.Buffers.{unsettled, uncollected, Accepted};
 ghost use Rattle.primary.specs.declared.outcome.Outcome.TheVariants.{NoConnection};
 ghost use Rattle.primary.specs.Rules.{message_rules, room_rules};
 
@@ -46,6 +47,7 @@ impl SendBuffers {
     }
 
     // How many messages are without outcome.
+    #[tactic(auto, using(buffer::proofs::Turns::length_turns))]
     pub(crate) fn unsettled(&self) -> usize
         ensures value { result ≡ length (unsettled self.now) }
         ensures count { result ≡ self.now.used - self.now.done }
@@ -54,6 +56,7 @@ impl SendBuffers {
     }
 
     // How many outcomes are not collected.
+    #[tactic(auto, using(buffer::proofs::Turns::length_turns))]
     pub(crate) fn uncollected(&self) -> usize
         ensures { result ≡ length (uncollected self.now) }
     {
@@ -61,6 +64,7 @@ impl SendBuffers {
     }
 
     // A message that DATA can carry and that a buffer is free for; others are refused with 16, 17 or 19.
+    #[tactic(auto, using(buffer::proofs::Turns::length_turns))]
     pub(crate) fn admit(&self, message: &[u8]) -> Result<Buffer<96>, Refusal>
         ensures value { answer contents result ≡ judged (message_rules message.now ++ room_rules (length (unsettled self.now) + length (uncollected self.now))) message.now }
         ensures room { OnOk result (self.now.used < 8) }
@@ -83,16 +87,13 @@ impl SendBuffers {
 
     // The oldest message without outcome.
     pub(crate) fn current(&self) -> Option<&[u8]>
-        ensures { option_map (λ x. x.now) result ≡ first (unsettled self.now) }
+        ensures { option_map (λ x. x.now) result ≡ slice_get (unsettled self.now) 0 }
     {
         if self.done == self.used {
             return None;
         }
-        Some(
-            self.buffers[(self.head + self.done) % CAPACITY]
-                .message
-                .as_slice(),
-        )
+        let current = &self.buffers[(self.head + self.done) % CAPACITY];
+        Some(current.message.as_slice())
     }
 
     // The oldest message without outcome gets one.
@@ -108,6 +109,7 @@ impl SendBuffers {
     }
 
     // Each message without outcome gets no connection.
+    #[tactic(auto, using(buffer::proofs::Turns::length_turns))]
     pub(crate) fn settle_rest(&mut self)
         ensures waits { unsettled self.new ≡ [] }
         ensures told { uncollected self.new ≡ uncollected self.old ++ replicate (length (unsettled self.old)) NoConnection }
@@ -120,7 +122,7 @@ impl SendBuffers {
 
     // The oldest outcome not collected.
     pub(crate) fn oldest_outcome(&self) -> Option<Outcome>
-        ensures value { result ≡ first (uncollected self.now) }
+        ensures value { result ≡ slice_get (uncollected self.now) 0 }
         ensures some { OnSome result (0 < self.now.done) }
     {
         if self.done == 0 {
