@@ -59,6 +59,7 @@ pub fn read<K: Check>(burst: &[u8]) -> Result<Packet<'_>, Refusal>
     take_apart::<K>(burst)
 }
 
+// What `read` answers. Apart from it, so that the laws are proved at one return, from this one equation.
 fn take_apart<K: Check>(burst: &[u8]) -> Result<Packet<'_>, Refusal>
     ensures { answer told result ≡ reading K.LEN K.meaning burst.now }
 {

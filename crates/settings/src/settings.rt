@@ -11,7 +11,7 @@ const VERSION: u8 = 1;
 // How many bytes follow the length.
 const LENGTH: u16 = 6;
 
-// The settings in a frame, or a refusal with 8 to 13.
+// The settings in a frame, or a refusal with 8 to 13. A TryFrom would be no plainer: here its three promises have names.
 pub fn parse(frame: &[u8]) -> Result<Settings, Refusal>
     ensures value { answer (λ s. s) result ≡ settings_of frame.now }
     ensures ranges { IfOk result InRange }
@@ -20,6 +20,7 @@ pub fn parse(frame: &[u8]) -> Result<Settings, Refusal>
     take_apart(frame)
 }
 
+// What `parse` answers. Apart from it, so that the laws are proved at one return, from this one equation.
 fn take_apart(frame: &[u8]) -> Result<Settings, Refusal>
     ensures { answer (λ s. s) result ≡ settings_of frame.now }
 {
