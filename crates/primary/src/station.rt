@@ -34,7 +34,7 @@ impl fmt::Display for State {
 }
 
 // What a station tells of itself: its state, the number of its last DATA, its attempts, the credit last heard (9 if none
-// was), how many messages are without outcome and how many outcomes are not collected.
+// was, a number of the protocol), how many messages are without outcome and how many outcomes are not collected.
 #[derive(Clone, Copy, Debug, PartialEq, Eq)]
 pub struct Status {
     pub state: State,
@@ -46,6 +46,7 @@ pub struct Status {
 }
 
 // Messages are without outcome exactly while the station waits or asks: the oldest of them is current.
+// No `impl Model`: `≡` would then compare models, and a refused call leaves the whole station as it was.
 #[derive(Drop)]
 pub struct Primary {
     buffers: SendBuffers,

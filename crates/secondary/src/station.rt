@@ -12,6 +12,7 @@ pub struct DeliverySlip {
 }
 
 // `last` is the number of the last ACK, none while the last answer is RESET. `out` says that the oldest delivery is out.
+// No `impl Model`: `≡` would then compare models, and a refused call leaves the whole station as it was.
 #[derive(Drop)]
 pub struct Secondary {
     line: u8,

@@ -64,7 +64,7 @@ impl SendBuffers {
     }
 
     // Takes a message into a free buffer; one that DATA cannot carry, or that no buffer is free for, is refused with 16, 17 or 19.
-    #[tactic(auto, using(buffer::proofs::Turns::length_turns))]
+    #[tactic(auto, using(buffer::proofs::Turns::length_turns, buffer::proofs::Turns::before_kept, buffer::proofs::Turns::one_more, packet::proofs::Judging::passed))]
     pub(crate) fn accept(&mut self, message: &[u8]) -> Result<(), Refusal>
         ensures value { answer (λ u. u) result ≡ judged (message_rules message.now ++ room_rules (length (unsettled self.old) + length (uncollected self.old))) tt }
         ensures taken { OnOk result (Accepted message.now self.old self.new) }
@@ -88,6 +88,7 @@ impl SendBuffers {
     }
 
     // The oldest message without outcome gets one.
+    #[tactic(auto, using(buffer::proofs::Turns::behind_kept, buffer::proofs::Turns::one_more))]
     pub(crate) fn settle(&mut self, outcome: Outcome)
         requires { self.old.done < self.old.used }
         ensures waits { unsettled self.new ≡ drop 1 (unsettled self.old) }
@@ -99,7 +100,7 @@ impl SendBuffers {
     }
 
     // Each message without outcome gets no connection.
-    #[tactic(auto, using(buffer::proofs::Turns::length_turns))]
+    #[tactic(auto, using(buffer::proofs::Turns::length_turns, crate::proofs::Rest::one_settled))]
     pub(crate) fn settle_rest(&mut self)
         ensures waits { unsettled self.new ≡ [] }
         ensures told { uncollected self.new ≡ uncollected self.old ++ replicate (length (unsettled self.old)) NoConnection }
@@ -119,6 +120,7 @@ impl SendBuffers {
     }
 
     // Frees the buffer of the oldest outcome.
+    #[tactic(auto, using(buffer::proofs::Turns::later_kept, buffer::proofs::Turns::first_of))]
     pub(crate) fn free_oldest(&mut self)
         requires { 0 < self.old.done }
         ensures waits { unsettled self.new ≡ unsettled self.old }

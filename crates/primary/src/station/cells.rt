@@ -23,8 +23,7 @@ const ARRIVAL: Tally = Tally {
     no_connection: 0,
 };
 
-// What a cell needs of state and buffers is a `requires`, and no type over `&mut Primary`: the cell ends it (giving up
-// leaves no current message), and a ghost field beside a `&mut` has to hold at the end of a call too.
+// What a cell needs stays a `requires`: a guard over `&mut Primary` would have to keep its ghost field, and giving up ends it.
 impl Primary {
     fn ask(&mut self) -> Step
         ensures { did self.new result ≡ asks (model self.old).phase (model self.old) }

@@ -25,6 +25,7 @@ impl Deliveries {
     }
 
     // The number of the oldest buffer, by that of the next one.
+    #[tactic(auto, using(buffer::proofs::Turns::length_turns))]
     pub(crate) fn oldest(&self) -> u8
         ensures { result ≡ (next_buffer self.now + 8 - length (messages self.now)) % 8 }
     {
@@ -52,6 +53,7 @@ impl Deliveries {
     }
 
     // Frees the oldest buffer.
+    #[tactic(auto, using(buffer::proofs::Turns::first_of))]
     pub(crate) fn release(&mut self)
         requires { 0 < self.old.held }
         ensures messages { messages self.new ≡ drop 1 (messages self.old) }
