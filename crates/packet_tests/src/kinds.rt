@@ -16,7 +16,7 @@ pub struct Pair;
 impl Check for Pair {
     const LEN: usize = 2;
 
-    ghost size = { 2 };
+    ghost LEN = { 2 };
 
     ghost meaning = { pair_check };
 
@@ -30,14 +30,10 @@ impl Check for Pair {
 
     ghost tells = { λ xs ys h g a e. sum_tells xs ys h g a (ap (take 1) e) };
 
-    fn count() -> usize {
-        Self::LEN
-    }
-
     fn check(covered: &[u8]) -> [u8; 5] {
-        let sum = Sum::check(covered);
-        let xor = Xor::check(covered);
-        [sum[0], xor[0], 0, 0, 0]
+        let [sum, ..] = Sum::check(covered);
+        let [xor, ..] = Xor::check(covered);
+        [sum, xor, 0, 0, 0]
     }
 }
 
@@ -47,7 +43,7 @@ pub struct Five;
 impl Check for Five {
     const LEN: usize = 5;
 
-    ghost size = { 5 };
+    ghost LEN = { 5 };
 
     ghost meaning = { five_check };
 
@@ -61,13 +57,9 @@ impl Check for Five {
 
     ghost tells = { λ xs ys h g a e. sum_tells xs ys h g a (ap (take 1) e) };
 
-    fn count() -> usize {
-        Self::LEN
-    }
-
     fn check(covered: &[u8]) -> [u8; 5] {
-        let sum = Sum::check(covered);
-        let xor = Xor::check(covered);
-        [sum[0], xor[0], xor[0], sum[0], sum[0]]
+        let [sum, ..] = Sum::check(covered);
+        let [xor, ..] = Xor::check(covered);
+        [sum, xor, xor, sum, sum]
     }
 }

@@ -25,3 +25,7 @@ same_end e e' k s p q =
 pub where_same : {K A E P : Type 0} {g : check.Ghosts K} (r : Result A E) (e e' : End K g) → (P → e' ≡ e) → IfErr r (λ _. P) → IfErr r (λ _. e' ≡ e)
 where_same (Ok x) e e' f h = tt
 where_same (Err x) e e' f h = f h
+
+pub refused_same : {K A E : Type 0} {g : check.Ghosts K} (r : Result A E) (e e' : End K g) → e' ≡ e → IfErr r (λ _. e' ≡ e)
+refused_same (Ok x) e e' h = tt
+refused_same (Err x) e e' h = h

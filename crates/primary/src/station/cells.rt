@@ -1,21 +1,30 @@
 // The actions of the table's cells, and the step that chooses among them.
-ghost use Rattle.std.specs.Prelude.{◌≡◌, ◌<◌, true, [], drop, is_err, OnErr, slice_index_or};
+ghost use Rattle.std.specs.Prelude.{◌≡◌, true, [], drop, is_err, OnErr, slice_index_or};
 ghost use Rattle.packet.specs.Numbers.{is_one};
 ghost use Rattle.packet.specs.Refusals.{answer};
 ghost use Rattle.primary.specs.declared.station.State.TheVariants.{Off, Ready, Waiting, Asking};
 ghost use Rattle.primary.specs.Buffers.{unsettled};
-ghost use Rattle.primary.specs.Model.{model, did, heard};
+ghost use Rattle.primary.specs.Model.{model, did, heard, HasCurrent};
 ghost use Rattle.primary.specs.Rules.{oldest};
 ghost use Rattle.primary.specs.Station.{ready, submission, ack};
 ghost use Rattle.primary.specs.Table.{at, moved, credited, rests, asks, sends_again, sends_next, arrives, gives_up, expires, cell, step_of, collected};
 
-use crate::buffers::ring::check_message;
+use crate::buffers::ring::sendable;
 use crate::event::{Event, Step};
-use crate::outcome::Outcome;
+use crate::outcome::{Outcome, Tally};
 use crate::station::{Primary, State};
 use packet::number::Number;
 use packet::refusal::Refusal;
 
+// One message has arrived.
+const ARRIVAL: Tally = Tally {
+    arrived: 1,
+    given_up: 0,
+    no_connection: 0,
+};
+
+// What a cell needs of state and buffers is a `requires`, and no type over `&mut Primary`: the cell ends it (giving up
+// leaves no current message), and a ghost field beside a `&mut` has to hold at the end of a call too.
 impl Primary {
     fn ask(&mut self) -> Step
         ensures { did self.new result ≡ asks (model self.old).phase (model self.old) }
@@ -30,7 +39,7 @@ impl Primary {
         ensures { did self.new result ≡ rests (at ready (model self.old)) }
     {
         self.state = State::Ready;
-        Step::nothing()
+        Step::default()
     }
 
     // An ACK came while the station was off.
@@ -48,7 +57,7 @@ impl Primary {
         ensures { did self.new result ≡ rests (credited credit (model self.old)) }
     {
         self.credit = credit;
-        Step::nothing()
+        Step::default()
     }
 
     // The oldest message without outcome is sent under the other number.
@@ -63,7 +72,7 @@ impl Primary {
 
     // The current message is sent again, under its number.
     fn send_again(&mut self) -> Step
-        requires { self.old.buffers.done < self.old.buffers.used }
+        requires { HasCurrent self.old }
         ensures { did self.new result ≡ sends_again (slice_index_or (unsettled self.old.buffers) 0 []) (drop 1 (unsettled self.old.buffers)) (model self.old) }
     {
         self.state = State::Waiting;
@@ -73,7 +82,7 @@ impl Primary {
 
     // The current message has arrived.
     fn arrived(&mut self) -> Step
-        requires { self.old.buffers.done < self.old.buffers.used }
+        requires { HasCurrent self.old }
         ensures { did self.new result ≡ arrives (drop 1 (unsettled self.old.buffers)) (model self.old) }
     {
         self.buffers.settle(Outcome::Arrived);
@@ -81,13 +90,13 @@ impl Primary {
             self.state = State::Ready;
             self.attempts = 0;
             return Step {
-                arrived: 1,
-                ..Step::nothing()
+                tally: ARRIVAL,
+                ..Step::default()
             };
         }
         self.state = State::Waiting;
         Step {
-            arrived: 1,
+            tally: ARRIVAL,
             ..self.send_next()
         }
     }
@@ -118,7 +127,7 @@ impl Primary {
 
     // No answer came.
     fn expired(&mut self, limit: u8) -> Step
-        requires { self.old.buffers.done < self.old.buffers.used }
+        requires { HasCurrent self.old }
         ensures { did self.new result ≡ expires limit (slice_index_or (unsettled self.old.buffers) 0 []) (drop 1 (unsettled self.old.buffers)) (model self.old) }
     {
         if self.attempts < limit {
@@ -130,7 +139,7 @@ impl Primary {
 
     // The current message is given up, and no connection is left for those that wait.
     fn give_up(&mut self) -> Step
-        requires { self.old.buffers.done < self.old.buffers.used }
+        requires { HasCurrent self.old }
         ensures { did self.new result ≡ gives_up (drop 1 (unsettled self.old.buffers)) (model self.old) }
     {
         self.state = State::Off;
@@ -139,8 +148,11 @@ impl Primary {
         let waiting = self.buffers.unsettled() as u8;
         self.buffers.settle_rest();
         Step {
-            given_up: 1,
-            no_connection: waiting,
+            tally: Tally {
+                arrived: 0,
+                given_up: 1,
+                no_connection: waiting,
+            },
             ..Step::enq()
         }
     }
@@ -150,9 +162,7 @@ impl Primary {
         requires { self.now.state ≡ Off }
         ensures { (answer (did self.now) result ≡ step_of 0 (model self.now) (submission message.now)) × (is_err result ≡ true) }
     {
-        if let Err(refusal) = check_message(message) {
-            return Err(refusal);
-        }
+        sendable(message)?;
         Err(Refusal::NotConnected)
     }
 
@@ -162,25 +172,21 @@ impl Primary {
         ensures value { answer (did self.new) result ≡ step_of 0 (model self.old) (submission message.now) }
         ensures unchanged { OnErr result (self.new ≡ self.old) }
     {
-        if let Err(refusal) = self.buffers.admit(message) {
-            return Err(refusal);
-        }
-        self.buffers.put(message);
+        let kept = self.buffers.admit(message)?;
+        self.buffers.put(kept);
         self.state = State::Waiting;
         Ok(self.send_next())
     }
 
     // A message while another is under way: it waits.
     fn queue(&mut self, message: &[u8]) -> Result<Step, Refusal>
-        requires { self.old.buffers.done < self.old.buffers.used }
+        requires { HasCurrent self.old }
         ensures value { answer (did self.new) result ≡ step_of 0 (model self.old) (submission message.now) }
         ensures unchanged { OnErr result (self.new ≡ self.old) }
     {
-        if let Err(refusal) = self.buffers.admit(message) {
-            return Err(refusal);
-        }
-        self.buffers.put(message);
-        Ok(Step::nothing())
+        let kept = self.buffers.admit(message)?;
+        self.buffers.put(kept);
+        Ok(Step::default())
     }
 
     // What the station does at an event, with the attempt limit as it is now: the action table. Only a submission can be
@@ -195,10 +201,10 @@ impl Primary {
             (State::Off, Event::Ack(number, credit)) => Ok(self.connect_under(number, credit)),
             (State::Off, Event::Timeout) => Ok(self.ask()),
             (State::Ready, Event::Submission(message)) => self.send_first(message),
-            (State::Ready, Event::Reset | Event::Timeout) => Ok(Step::nothing()),
+            (State::Ready, Event::Reset | Event::Timeout) => Ok(Step::default()),
             (State::Ready, Event::Ack(_, credit)) => Ok(self.note(credit)),
             (State::Waiting | State::Asking, Event::Submission(message)) => self.queue(message),
-            (State::Waiting, Event::Reset) => Ok(Step::nothing()),
+            (State::Waiting, Event::Reset) => Ok(Step::default()),
             (State::Waiting, Event::Ack(number, credit)) => Ok(self.acknowledge(number, credit)),
             (State::Asking, Event::Reset) => Ok(self.send_again()),
             (State::Asking, Event::Ack(number, credit)) => Ok(self.answer(number, credit)),
@@ -212,9 +218,7 @@ impl Primary {
         ensures after { model self.new ≡ collected (model self.old) }
         ensures unchanged { OnErr result (self.new ≡ self.old) }
     {
-        let Some(outcome) = self.buffers.oldest_outcome() else {
-            return Err(Refusal::NoOutcome);
-        };
+        let outcome = self.buffers.oldest_outcome().ok_or(Refusal::NoOutcome)?;
         self.buffers.free_oldest();
         Ok(outcome)
     }

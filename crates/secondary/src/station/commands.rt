@@ -1,14 +1,26 @@
 // The opening and the two commands.
 ghost use Rattle.std.specs.Prelude.{◌≡◌, OnErr};
-ghost use Rattle.packet.specs.Refusals.{answer};
+ghost use Rattle.buffer.specs.Buffers.{contents};
+ghost use Rattle.packet.specs.Refusals.{answer, judged};
 ghost use Rattle.secondary.specs.Laws.{LeaveInOrder};
-ghost use Rattle.secondary.specs.Station.{model, opened, free_buffers, enq_answer, data_answer, after_data};
+ghost use Rattle.secondary.specs.Station.{model, opened, free_buffers, enq_answer, message_rules, data_answer, after_data};
 
 use super::Secondary;
 use crate::deliveries::Deliveries;
-use crate::reply::{Reply, Response};
+use crate::reply::Answer;
+use buffer::Buffer;
 use packet::number::Number;
 use packet::refusal::Refusal;
+
+// A message that a buffer takes: one of 1 to 96 bytes.
+fn storable(message: &[u8]) -> Result<Buffer<96>, Refusal>
+    ensures { answer contents result ≡ judged (message_rules message.now) message.now }
+{
+    if message.is_empty() {
+        return Err(Refusal::MessageLength);
+    }
+    Buffer::from_slice(message).ok_or(Refusal::MessageLength)
+}
 
 impl Secondary {
     // A station that holds nothing, on the line of this number.
@@ -16,15 +28,9 @@ impl Secondary {
         ensures value { model result ≡ opened line }
         ensures in_order { LeaveInOrder (model result) }
     {
-        Secondary::empty(line)
-    }
-
-    fn empty(line: u8) -> Secondary
-        ensures { model result ≡ opened line }
-    {
         Secondary {
             line,
-            last: Reply::Reset,
+            last: None,
             deliveries: Deliveries::new(),
             out: false,
         }
@@ -37,17 +43,17 @@ impl Secondary {
     }
 
     // ENQ: the last answer again, with the credit of now; no answer while no buffer is free.
-    pub fn enq(&self, receive_limit: u8) -> Response
+    pub fn enq(&self, receive_limit: u8) -> Option<Answer>
         ensures { result ≡ enq_answer receive_limit (model self.now) }
     {
         let free = self.free_buffers(receive_limit);
         if free == 0 {
-            return Response::Nothing;
+            return None;
         }
-        match self.last {
-            Reply::Reset => Response::Reset,
-            Reply::Ack(number) => Response::Ack(number, free),
-        }
+        Some(match self.last {
+            None => Answer::Reset,
+            Some(number) => Answer::Ack(number, free),
+        })
     }
 
     // DATA: stores the message and acknowledges it; ignored while no buffer is free.
@@ -56,20 +62,18 @@ impl Secondary {
         number: Number,
         message: &[u8],
         receive_limit: u8,
-    ) -> Result<Response, Refusal>
+    ) -> Result<Option<Answer>, Refusal>
         ensures value { answer (λ x. x) result ≡ data_answer receive_limit number message.now (model self.old) }
         ensures after { model self.new ≡ after_data receive_limit number message.now (model self.old) }
         ensures unchanged { OnErr result (self.new ≡ self.old) }
     {
-        if message.len() < 1 || 96 < message.len() {
-            return Err(Refusal::MessageLength);
-        }
+        let message = storable(message)?;
         let free = self.free_buffers(receive_limit);
         if free == 0 {
-            return Ok(Response::Nothing);
+            return Ok(None);
         }
         self.deliveries.store(message);
-        self.last = Reply::Ack(number);
-        Ok(Response::Ack(number, free - 1))
+        self.last = Some(number);
+        Ok(Some(Answer::Ack(number, free - 1)))
     }
 }
