@@ -2,6 +2,7 @@
 use Rattle.std.proofs.Common.{◌≡◌, ℕ, zero, suc, ◌+◌, ◌<◌, ◌≤◌, Bool, true, false, cond, ◌&&◌, ◌||◌, ltb, List, [], ◌∷◌, ◌++◌, map, length, get_or, drop, Some, None, sym, refl, ap, ◌∙◌, arith}
 use Rattle.std.specs.List.{slice_get, AllByRecursion}
 use Rattle.std.proofs.lemmas.List.{length-map, map_push, length-take-le, at_drop_all}
+use Rattle.buffer.proofs.Bounds.{length_contents}
 use Rattle.ring.specs.Ring.{elements}
 use Rattle.medium.specs.declared.burst.Burst.{Burst}
 use Rattle.medium.specs.declared.offer.Offer.{Offer}
@@ -14,7 +15,7 @@ use Rattle.medium.proofs.Exact.{offered}
 
 -- every record means a burst of 1 to 104 bytes
 record_carried : (r : Burst) → Carried (bytes_of r)
-record_carried r = let n = length-take-le r.len r.bytes r.carried.1 in (omega arith, omega arith)
+record_carried r = (r.some, length_contents r.bytes)
 
 pub all_carried : (rs : List Burst) → AllByRecursion Carried (map bytes_of rs)
 all_carried [] = tt
@@ -51,31 +52,3 @@ took_in q q' r b t e x y k =
 
 pub meaning : (q : QueueMedium) (b : List ℕ) (r : Offer) (q' : QueueMedium) → TakesIn q b r q' → Offered (queued q) b r (queued q')
 meaning q b r q' x = offered (queued q) (queued q') b (free q) r x.answer x.bursts
-
--- one record further in the search for a letter
-letter_more : (f : ℕ → Bool) (rs : List Burst) (k : ℕ) (r : Burst) → slice_get rs k ≡ Some r
-    → some_letter f (drop k (map bytes_of rs)) ≡ (f (get_or (bytes_of r) 1 0) || some_letter f (drop (k + 1) (map bytes_of rs)))
-letter_more f [] k r e = absurd (let z : ◌≡◌ {A = ℕ} 0 1 = cc in omega arith)
-letter_more f (x ∷ rs) zero r e = let q : x ≡ r = cc in ap (λ s. f (get_or (bytes_of s) 1 0) || some_letter f (map bytes_of rs)) q
-letter_more f (x ∷ rs) (suc k) r e =
-    let q : suc (k + 1) ≡ suc k + 1 = omega arith in
-    letter_more f rs k r e ∙ ap (λ i. f (get_or (bytes_of r) 1 0) || some_letter f (drop i (map bytes_of (x ∷ rs)))) q
-
-pub letter_here : (f : ℕ → Bool) (rs : List Burst) (k : ℕ) (r : Burst) (x : ℕ) → slice_get rs k ≡ Some r → x ≡ get_or (bytes_of r) 1 0
-    → f x ≡ true → some_letter f (drop k (map bytes_of rs)) ≡ true
-letter_here f rs k r x e q t =
-    letter_more f rs k r e ∙ ap (λ y. y || some_letter f (drop (k + 1) (map bytes_of rs))) (ap f (sym q) ∙ t)
-
-pub letter_next : (f : ℕ → Bool) (rs : List Burst) (k : ℕ) (r : Burst) (x : ℕ) → slice_get rs k ≡ Some r → x ≡ get_or (bytes_of r) 1 0
-    → f x ≡ false → some_letter f (drop (k + 1) (map bytes_of rs)) ≡ some_letter f (drop k (map bytes_of rs))
-letter_next f rs k r x e q t =
-    sym (letter_more f rs k r e ∙ ap (λ y. y || some_letter f (drop (k + 1) (map bytes_of rs))) (ap f (sym q) ∙ t))
-
-pub letter_all : (f : ℕ → Bool) (rs : List Burst) (k : ℕ) → length rs ≤ k → some_letter f (drop k (map bytes_of rs)) ≡ false
-letter_all f rs k h = let n = length-map rs bytes_of in at_drop_all (some_letter f) (map bytes_of rs) k (omega arith)
-
--- an element within the list is there
-pub missing : (rs : List Burst) (k : ℕ) → k < length rs → slice_get rs k ≡ None → ⊥
-missing [] k h e = omega arith
-missing (r ∷ rs) zero h e = let z : ◌≡◌ {A = ℕ} 0 1 = cc in omega arith
-missing (r ∷ rs) (suc k) h e = missing rs k (omega arith) e

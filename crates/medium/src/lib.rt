@@ -5,7 +5,7 @@ ghost use Rattle.std.specs.Prelude.{◌≡◌, ℕ, ◌≤◌, List, [], ◌++�
 ghost use Rattle.std.specs.List.{AllByRecursion};
 ghost use Rattle.medium.specs.declared.offer.Offer.{Offer as Answer};
 ghost use Rattle.medium.specs.Bursts.{Carried, first, some_letter};
-ghost use Rattle.medium.specs.Letters.{command, answer};
+ghost use Rattle.medium.specs.Classes.{letters};
 ghost use Rattle.medium.specs.Offered.{Offered};
 
 pub mod burst;
@@ -15,6 +15,7 @@ pub mod offer;
 pub mod queue;
 pub mod record;
 
+use class::Class;
 use offer::Offer;
 
 // The most bytes of a burst.
@@ -41,16 +42,12 @@ pub trait Medium {
         ensures value { result ≡ length (bursts self.now) }
         ensures carried { AllByRecursion Carried (bursts self.now) };
 
-    // Whether a burst under way has a command letter.
-    fn holds_commands(&self) -> bool
-        ensures { result ≡ some_letter command (bursts self.now) };
-
-    // Whether a burst under way has an answer letter.
-    fn holds_answers(&self) -> bool
-        ensures { result ≡ some_letter answer (bursts self.now) };
+    // Whether a burst under way has a letter of the class.
+    fn holds(&self, class: Class) -> bool
+        ensures { result ≡ some_letter (letters class) (bursts self.now) };
 
     // Takes the first burst out, to the start of the place, and tells its length: 0 exactly
-    // where there is none.
+    // where there is none, a rule of the product that needs no Option, as no burst is empty.
     fn take(&mut self, place: &mut [u8; LONGEST]) -> usize
         ensures value { result ≡ length (first (bursts self.old)) }
         ensures bound { result ≤ 104 }
