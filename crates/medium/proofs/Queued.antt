@@ -1,25 +1,15 @@
 -- Laws of the bursts in a ring of records.
-use Rattle.std.proofs.Common.{◌≡◌, ℕ, zero, suc, ◌+◌, ◌<◌, ◌≤◌, Bool, true, false, cond, ◌&&◌, ◌||◌, ltb, List, [], ◌∷◌, ◌++◌, map, length, get_or, drop, Some, None, sym, refl, ap, ◌∙◌, arith}
-use Rattle.std.specs.List.{slice_get, AllByRecursion}
-use Rattle.std.proofs.lemmas.List.{length-map, map_push, length-take-le, at_drop_all}
-use Rattle.buffer.proofs.Bounds.{length_contents}
+use Rattle.std.proofs.Common.{◌≡◌, ℕ, Bool, true, false, cond, ◌&&◌, ltb, List, [], ◌∷◌, ◌++◌, map, length, Some, None, sym, refl, ap, ◌∙◌, arith}
+use Rattle.std.proofs.lemmas.List.{length-map, map_push}
 use Rattle.ring.specs.Ring.{elements}
 use Rattle.medium.specs.declared.burst.Burst.{Burst}
 use Rattle.medium.specs.declared.offer.Offer.{Offer}
 use Rattle.medium.specs.declared.queue.QueueMedium.{QueueMedium}
-use Rattle.medium.specs.Bursts.{Carried, carried, some_letter}
+use Rattle.medium.specs.Bursts.{carried}
 use Rattle.medium.specs.Offered.{Offered, whole_if}
 use Rattle.medium.specs.Queue.{queued, places, free, Kept, TakesIn}
 use Rattle.medium.specs.Records.{bytes_of}
 use Rattle.medium.proofs.Exact.{offered}
-
--- every record means a burst of 1 to 104 bytes
-record_carried : (r : Burst) → Carried (bytes_of r)
-record_carried r = (r.some, length_contents r.bytes)
-
-pub all_carried : (rs : List Burst) → AllByRecursion Carried (map bytes_of rs)
-all_carried [] = tt
-all_carried (r ∷ rs) = (record_carried r, all_carried rs)
 
 -- only a burst that is carried has a record
 recorded_if : (x b : List ℕ) (k : Bool) → Some x ≡ cond k (Some b) None → (k ≡ true) × (x ≡ b)

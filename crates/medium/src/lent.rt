@@ -10,6 +10,8 @@ impl<M: Medium> Medium for &mut M {
 
     ghost takes = { λ m n. M.Medium.takes m.now n.now };
 
+    ghost all_carried = { λ m. M.Medium.all_carried m.now };
+
     fn offer(&mut self, burst: &[u8]) -> Offer {
         (**self).offer(burst)
     }

@@ -37,10 +37,9 @@ pub trait Medium {
         ensures meaning { Offered (bursts self.old) burst.now result (bursts self.new) }
         ensures exact { offers self.old burst.now result self.new };
 
-    // How many bursts are under way. Each has 1 to 104 bytes.
+    // How many bursts are under way.
     fn count(&self) -> usize
-        ensures value { result ≡ length (bursts self.now) }
-        ensures carried { AllByRecursion Carried (bursts self.now) };
+        ensures { result ≡ length (bursts self.now) };
 
     // Whether a burst under way has a letter of the class.
     fn holds(&self, class: Class) -> bool
@@ -55,4 +54,7 @@ pub trait Medium {
         ensures place { place.new ≡ first (bursts self.old) ++ drop result place.old }
         ensures after { bursts self.new ≡ drop 1 (bursts self.old) }
         ensures exact { takes self.old self.new };
+
+    // Each burst under way has 1 to 104 bytes.
+    ghost all_carried: { (m : Self) → AllByRecursion Carried (bursts m) };
 }

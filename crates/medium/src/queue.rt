@@ -1,5 +1,6 @@
 // A medium that is a queue of up to 4,096 bursts.
 ghost use Rattle.std.specs.Prelude.{◌≡◌, min, [], length, drop};
+ghost use Rattle.medium.specs.AllCarried.{all_carried};
 ghost use Rattle.medium.specs.Queue.{queued, places, beyond, memory, TakesIn, Kept};
 
 use crate::burst::Burst;
@@ -45,6 +46,8 @@ impl<'a> Medium for QueueMedium<'a> {
     ghost offers = { TakesIn };
 
     ghost takes = { Kept };
+
+    ghost all_carried = { all_carried };
 
     fn offer(&mut self, burst: &[u8]) -> Offer {
         let Some(record) = Burst::of(burst) else {
