@@ -17,6 +17,7 @@ impl Deliveries {
         }
     }
 
+    #[tactic(auto, using(buffer::proofs::Turns::length_turns))]
     pub(crate) fn held(&self) -> u8
         ensures { result ≡ length (messages self.now) }
     {

@@ -1,11 +1,12 @@
-use Rattle.std.proofs.Common.{◌≡◌, ◌≤◌, IfOk, IfErr, Ok, Err, Result, sym, refl, ap, ◌∙◌, subst}
+use Rattle.std.proofs.Common.{◌≡◌, ◌≤◌, IfOk, IfErr, Ok, Err, Result, sym, refl, subst}
+use Rattle.std.proofs.lemmas.Result.{on_err_weaker}
 use Rattle.packet.specs.declared.refusal.Refusal.{Refusal}
 use Rattle.packet.specs.Refusals.{Answer, refused, gave}
 use Rattle.settings.specs.declared.values.Settings.{Settings}
 use Rattle.settings.specs.Frame.{settings_after, InRange}
 use Rattle.station.specs.End.{End, change, set_by, with_settings}
 use Rattle.station.specs.Models.{model}
-use Rattle.station.proofs.Same.{same_end, where_same}
+use Rattle.station.proofs.Same.{same_end}
 use Rattle.station.proofs.end.End.change_settings.Goals as goal
 
 -- the settings of an end changed
@@ -25,10 +26,9 @@ invariant_of-self g c =
     record { sendable = s.sendable; limited = still_limited c.change.result s.settings _ s.limited w.ranges w.unchanged }
 
 pub returns-clause-unchanged : goal.returns-clause-unchanged
-returns-clause-unchanged g c = where_same c.change.result _ _ (λ h. same_end _ _ refl h refl refl) c.change.ensures.unchanged
+returns-clause-unchanged g c = on_err_weaker c.change.result (λ h. same_end _ _ refl h refl refl) c.change.ensures.unchanged
 
 pub returns-clause-after : goal.returns-clause-after
 returns-clause-after g c =
     let e = model c.args.self.now in
-    let after = rw (c.awaiting-awaiting.ensures, c.held-held.ensures) at c.change.ensures.after in
-    ap (λ (t : Settings). with_settings t e) after ∙ set_is (change e c.args.frame.now) e
+    rw (c.change.ensures.after, c.awaiting-awaiting.ensures, c.held-held.ensures) (set_is (change e c.args.frame.now) e)
