@@ -6,7 +6,8 @@ ghost use Rattle.packing.specs.Rowed.{Packs};
 use ring::Ring;
 
 // From byte `at` to the end there are bursts, each after its length, and nothing else. The letter
-// of a burst is its second byte, or 0 where it has none.
+// of a burst is its second byte, or 0 where it has none. It goes by places, and not over the
+// bytes one by one, so that a step passes a whole burst.
 #[derive(Drop)]
 pub(crate) struct Letters<'r, 'a> {
     ring: &'r Ring<'a, u8>,
