@@ -16,10 +16,6 @@ queued q = map bytes_of (ring.elements q.ring)
 abbrev pub places : QueueMedium → ℕ
 places q = ring.places q.ring
 
--- the memory beyond its limit
-abbrev pub beyond : QueueMedium → List Burst
-beyond q = ring.beyond q.ring
-
 -- all memory that it was lent
 abbrev pub memory : QueueMedium → List Burst
 memory q = ring.memory q.ring
