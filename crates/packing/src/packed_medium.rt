@@ -3,7 +3,6 @@ ghost use Rattle.std.specs.Prelude.{◌≡◌, []};
 ghost use Rattle.packing.specs.AllCarried.{all_carried};
 ghost use Rattle.packing.specs.Packed.{carries, Over, Anew, PacksIn, Kept};
 
-use crate::letters::Letters;
 use crate::packed::PackedMedium;
 use crate::rows;
 use medium::class::Class;
@@ -57,11 +56,11 @@ impl<'a> Medium for PackedMedium<'a> {
     }
 
     fn count(&self) -> usize {
-        Letters::of(&self.ring).count()
+        self.letters().count()
     }
 
     fn holds(&self, class: Class) -> bool {
-        Letters::of(&self.ring).any(|letter| class.has(letter))
+        self.letters().any(|letter| class.has(letter))
     }
 
     fn take(&mut self, place: &mut [u8; LONGEST]) -> usize {
