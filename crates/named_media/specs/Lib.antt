@@ -1,3 +1,2 @@
 pub mod Media
 pub mod Model
-pub mod Starts
