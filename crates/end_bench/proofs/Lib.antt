@@ -3,6 +3,5 @@ mod Changed
 mod Closings
 mod Fairness
 mod Lent
-mod Openings
 mod Placed
 mod Takings
