@@ -1,5 +1,4 @@
 mod Balance
-mod Changed
 mod Closings
 mod Fairness
 mod Lent
