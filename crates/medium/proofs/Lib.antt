@@ -1,3 +1,3 @@
+pub mod Lists
 pub mod Written
 pub mod Exact
-pub mod Queued

@@ -29,9 +29,8 @@ abbrev pub free : QueueMedium → Bool
 free q = nat_lt (length (queued q)) (places q)
 
 -- what all calls leave as it is
-pub record Kept (q q' : QueueMedium) : Type 0 where
-  pub places : places q' ≡ places q
-  pub beyond : beyond q' ≡ beyond q
+abbrev pub Kept : QueueMedium → QueueMedium → Type 0
+Kept q q' = ring.InPlace q.ring q'.ring
 
 -- what an offer of b does: whole, and added, exactly when b is of 1 to 104 bytes and a place is free
 pub record TakesIn (q : QueueMedium) (b : List ℕ) (r : Offer) (q' : QueueMedium) : Type 0 where

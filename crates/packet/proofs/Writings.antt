@@ -1,5 +1,5 @@
 -- What the writer leaves in its buffer. Assumes nothing.
-use Rattle.std.proofs.Common.{◌≡◌, ℕ, suc, ◌+◌, ◌-◌, ◌≤◌, cond, not, ltb, List, [], ◌∷◌, ◌++◌, length, get_or, take, drop, set, Some, None, sym, refl, ap, ◌∙◌, arith}
+use Rattle.std.proofs.Common.{◌≡◌, ℕ, suc, ◌+◌, ◌-◌, ◌≤◌, cond, not, ltb, List, [], ◌∷◌, ◌++◌, length, get_or, take, drop, set, sym, refl, ap, ◌∙◌, arith}
 use borrow.Rule.Slice.PartMut.{put_mid}
 use Rattle.std.proofs.lemmas.List.{append_assoc, drop_more, set_at, take_at}
 use Rattle.std.proofs.lemmas.Slice.{put_mid-paste, drop-append-drop}
@@ -53,7 +53,7 @@ written c check l f out was w e i n =
     put ∙ ap (λ (xs : List ℕ). xs ++ (k ++ drop (length f + 3 + length k) out)) front ∙ ap (λ (xs : List ℕ). p ++ (k ++ xs)) back ∙ sym (append_assoc p k (drop (length f + 3 + c) was))
 
 -- the ways through the rules, with the letter that the code found
-module _ (c l k : ℕ) (f : List ℕ) (n : ℕ) (found : Some k ≡ cond (known l) (Some l) None) where
+module _ (c l k : ℕ) (f : List ℕ) (n : ℕ) (found : gave k ≡ cond (known l) (gave l) (refused 3)) where
   abbrev room : Rule
   room = ltb n (length f + 3 + c) ⇒ 29
 

@@ -7,25 +7,20 @@ pub trait Check {
     // The number of check bytes.
     const LEN: usize;
 
-    // LEN, as contracts name it.
-    ghost size: { ℕ };
+    ghost LEN: { ℕ };
 
     // The check bytes of each string of covered bytes.
     ghost meaning: { List ℕ → List ℕ };
 
-    // LEN: generic code learns the constant's value by this call alone.
-    fn count() -> usize
-        ensures { result ≡ size };
-
     // The check bytes of `covered` come first in the answer, then zeros.
     fn check(covered: &[u8]) -> [u8; 5]
-        ensures { result ≡ padded size (meaning covered.now) };
+        ensures { result ≡ padded LEN (meaning covered.now) };
 
-    ghost least_size: { 1 ≤ size };
+    ghost least_size: { 1 ≤ LEN };
 
-    ghost greatest_size: { size ≤ 5 };
+    ghost greatest_size: { LEN ≤ 5 };
 
-    ghost sized: { (xs : List ℕ) → length (meaning xs) ≡ size };
+    ghost sized: { (xs : List ℕ) → length (meaning xs) ≡ LEN };
 
     ghost marked: { (xs : List ℕ) → Each 0x80 0xff (meaning xs) };
 

@@ -1,81 +1,70 @@
 // The operation letters of a packet.
-ghost use Rattle.std.specs.Prelude.{◌≡◌, if◌then◌else◌, Some, None};
-ghost use Rattle.std.specs.Option.{option_map};
-ghost use Rattle.packet.specs.Bytes.{byte_of, data_byte, ack_byte};
+ghost use Rattle.std.specs.Prelude.{◌≡◌, ◌∷◌, [], if◌then◌else◌, Some};
+ghost use Rattle.packet.specs.Bytes.{byte_of};
 ghost use Rattle.packet.specs.Format.{field_rules};
 ghost use Rattle.packet.specs.Letters.{known, fits, allowed, each_between};
-ghost use Rattle.packet.specs.Numbers.{is_one};
-ghost use Rattle.packet.specs.Refusals.{answer, judged};
+ghost use Rattle.packet.specs.Refusals.{answer, refused, gave, judged};
 
 use crate::number::Number;
 use crate::refusal::Refusal;
+use std::fmt;
 
-#[derive(Clone, Copy)]
+#[derive(Clone, Copy, Debug, PartialEq, Eq)]
 pub enum Letter {
     Enq,
-    Data0,
-    Data1,
-    Ack0,
-    Ack1,
+    Data(Number),
+    Ack(Number),
     Reset,
 }
 
-impl Letter {
-    pub fn from_byte(byte: u8) -> Option<Letter>
-        ensures { option_map byte_of result ≡ (if known byte then Some byte else None) }
-    {
+impl TryFrom<u8> for Letter {
+    type Error = Refusal;
+
+    ghost try_from_gives = { λ byte letter. answer byte_of letter ≡ (if known byte then gave byte else refused 3) };
+
+    fn try_from(byte: u8) -> Result<Letter, Refusal> {
         match byte as char {
-            'E' => Some(Letter::Enq),
-            '0' => Some(Letter::Data0),
-            '1' => Some(Letter::Data1),
-            'A' => Some(Letter::Ack0),
-            'B' => Some(Letter::Ack1),
-            'R' => Some(Letter::Reset),
-            _ => None,
+            'E' => Ok(Letter::Enq),
+            '0' => Ok(Letter::Data(Number::Zero)),
+            '1' => Ok(Letter::Data(Number::One)),
+            'A' => Ok(Letter::Ack(Number::Zero)),
+            'B' => Ok(Letter::Ack(Number::One)),
+            'R' => Ok(Letter::Reset),
+            _ => Err(Refusal::UnknownLetter),
         }
     }
+}
 
-    // DATA under a number.
-    pub fn data(number: Number) -> Letter
-        ensures { byte_of result ≡ data_byte (is_one number) }
-    {
-        match number {
-            Number::Zero => Letter::Data0,
-            Number::One => Letter::Data1,
-        }
-    }
+impl From<Letter> for u8 {
+    ghost from_gives = { λ letter byte. byte ≡ byte_of letter };
 
-    // ACK of a number.
-    pub fn ack(number: Number) -> Letter
-        ensures { byte_of result ≡ ack_byte (is_one number) }
-    {
-        match number {
-            Number::Zero => Letter::Ack0,
-            Number::One => Letter::Ack1,
-        }
-    }
-
-    pub fn byte(self) -> u8
-        ensures { result ≡ byte_of self }
-    {
-        match self {
+    fn from(letter: Letter) -> u8 {
+        match letter {
             Letter::Enq => b'E',
-            Letter::Data0 => b'0',
-            Letter::Data1 => b'1',
-            Letter::Ack0 => b'A',
-            Letter::Ack1 => b'B',
+            Letter::Data(number) => b'0' + u8::from(number),
+            Letter::Ack(number) => b'A' + u8::from(number),
             Letter::Reset => b'R',
         }
     }
+}
 
+impl fmt::Display for Letter {
+    ghost output = { λ letter. Some (byte_of letter ∷ []) };
+
+    fn fmt<W: fmt::Write>(&self, f: &mut fmt::Formatter<W>) -> fmt::Result {
+        f.write_char(u8::from(*self) as char)
+    }
+}
+
+impl Letter {
     // Whether a field of `n` bytes has the letter's length.
     fn length_fits(self, n: usize) -> bool
         ensures { result ≡ fits (byte_of self) n }
     {
         match self {
             Letter::Enq | Letter::Reset => n == 0,
-            Letter::Ack0 | Letter::Ack1 => n == 1,
-            Letter::Data0 | Letter::Data1 => 1 <= n && n <= 96,
+            Letter::Ack(_) => n == 1,
+            Letter::Data(_) => (1..=96).contains(&n),
         }
     }
 
@@ -84,7 +73,7 @@ impl Letter {
         ensures { result ≡ allowed (byte_of self) field.now }
     {
         match self {
-            Letter::Data0 | Letter::Data1 => all_between(0x20, 0x7e, field),
+            Letter::Data(_) => all_between(0x20, 0x7e, field),
             _ => all_between(0x30, 0x38, field),
         }
     }
@@ -103,7 +92,7 @@ impl Letter {
     }
 }
 
-// Whether each byte lies from `low` to `high`. No early exit, so that the loop vectorises.
+// Whether each byte lies from `low` to `high`. No early exit, as `all` has one, so that the loop vectorises.
 pub fn all_between(low: u8, high: u8, bytes: &[u8]) -> bool
     ensures { result ≡ each_between low high bytes.now }
 {

@@ -34,7 +34,7 @@ impl<'a> Packet<'a> {
         ensures { option_map (λ x. x.now) result ≡ (if is_data (byte_of self.entry.letter) then Some self.entry.field.now else None) }
     {
         match self.letter {
-            Letter::Data0 | Letter::Data1 => Some(self.field),
+            Letter::Data(_) => Some(self.field),
             _ => None,
         }
     }
@@ -44,7 +44,7 @@ impl<'a> Packet<'a> {
         ensures { result ≡ (if is_ack (byte_of self.entry.letter) && length self.entry.field.now == 1 then Some (slice_index self.entry.field.now 0) else None) }
     {
         match (self.letter, self.field) {
-            (Letter::Ack0 | Letter::Ack1, [credit]) => Some(*credit),
+            (Letter::Ack(_), [credit]) => Some(*credit),
             _ => None,
         }
     }
@@ -52,19 +52,18 @@ impl<'a> Packet<'a> {
 
 // Reads a burst, or refuses it with 1 to 7.
 pub fn read<K: Check>(burst: &[u8]) -> Result<Packet<'_>, Refusal>
-    ensures value { answer told result ≡ reading K.size K.meaning burst.now }
-    ensures as_written { ReadAsWritten K.size K.meaning burst.now (answer told result) }
-    ensures altered { AlteredRefused K.size K.meaning burst.now (answer told result) }
+    ensures value { answer told result ≡ reading K.LEN K.meaning burst.now }
+    ensures as_written { ReadAsWritten K.LEN K.meaning burst.now (answer told result) }
+    ensures altered { AlteredRefused K.LEN K.meaning burst.now (answer told result) }
 {
     take_apart::<K>(burst)
 }
 
 fn take_apart<K: Check>(burst: &[u8]) -> Result<Packet<'_>, Refusal>
-    ensures { answer told result ≡ reading K.size K.meaning burst.now }
+    ensures { answer told result ≡ reading K.LEN K.meaning burst.now }
 {
-    let c = K::count();
     let n = burst.len();
-    if !length_fits(n, c) {
+    if !(3 + K::LEN..=99 + K::LEN).contains(&n) {
         return Err(Refusal::BurstLength);
     }
     let [first, letter, rest @ ..] = burst else {
@@ -73,18 +72,14 @@ fn take_apart<K: Check>(burst: &[u8]) -> Result<Packet<'_>, Refusal>
     if *first != STX {
         return Err(Refusal::FirstByte);
     }
-    let Some(letter) = Letter::from_byte(*letter) else {
-        return Err(Refusal::UnknownLetter);
-    };
-    let end = n - c - 3;
-    let field = &rest[0..end];
-    if let Err(refusal) = letter.accept(field) {
-        return Err(refusal);
-    }
+    let letter = Letter::try_from(*letter)?;
+    let end = n - K::LEN - 3;
+    let field = &rest[..end];
+    letter.accept(field)?;
     if rest[end] != ETX {
         return Err(Refusal::EndByte);
     }
-    if !check_stands::<K>(burst, c) {
+    if !check_stands::<K>(burst) {
         return Err(Refusal::CheckBytes);
     }
     Ok(Packet {
@@ -94,26 +89,12 @@ fn take_apart<K: Check>(burst: &[u8]) -> Result<Packet<'_>, Refusal>
     })
 }
 
-// Whether a packet with `c` check bytes may have `n` bytes.
-fn length_fits(n: usize, c: usize) -> bool
-    requires { c ≤ 5 }
-    ensures { result ≡ between (3 + c) (99 + c) n }
+// Whether the last bytes are the check of those from the letter to them.
+fn check_stands<K: Check>(burst: &[u8]) -> bool
+    requires { 3 + K.LEN ≤ length burst.now }
+    ensures { result ≡ bytes_eq (check_of K.LEN burst.now) (K.meaning (covered_of K.LEN burst.now)) }
 {
-    3 + c <= n && n <= 99 + c
-}
-
-// Whether the last `c` bytes are the check of those from the letter to them.
-fn check_stands<K: Check>(burst: &[u8], c: usize) -> bool
-    requires { (c ≡ K.size) × (3 + c ≤ length burst.now) }
-    ensures { result ≡ bytes_eq (check_of K.size burst.now) (K.meaning (covered_of K.size burst.now)) }
-{
-    let end = burst.len() - c;
+    let end = burst.len() - K::LEN;
     let check = K::check(&burst[1..end]);
-    same_bytes(&burst[end..], &check[0..c])
-}
-
-fn same_bytes(a: &[u8], b: &[u8]) -> bool
-    ensures { result ≡ bytes_eq a.now b.now }
-{
-    a == b
+    burst[end..] == check[..K::LEN]
 }

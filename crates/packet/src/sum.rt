@@ -12,7 +12,7 @@ pub struct Sum;
 impl Check for Sum {
     const LEN: usize = 1;
 
-    ghost size = { 1 };
+    ghost LEN = { 1 };
 
     ghost meaning = { sum_check };
 
@@ -25,10 +25,6 @@ impl Check for Sum {
     ghost marked = { Prim.search rules };
 
     ghost tells = { sum_tells };
-
-    fn count() -> usize {
-        Self::LEN
-    }
 
     fn check(covered: &[u8]) -> [u8; 5] {
         let mut sum = 0u8;

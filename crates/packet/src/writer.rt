@@ -11,32 +11,27 @@ use crate::refusal::Refusal;
 
 // Writes the packet of a letter and a field to the front of `out` and tells its length, or refuses with 3, 4, 5 or 29.
 pub fn write<K: Check>(letter: u8, field: &[u8], out: &mut [u8]) -> Result<usize, Refusal>
-    ensures value { answer (λ n. n) result ≡ writing K.size letter field.now (length out.old) }
+    ensures value { answer (λ n. n) result ≡ writing K.LEN letter field.now (length out.old) }
     ensures after { out.new ≡ after_writing (answer (λ n. n) result) (packet K.meaning letter field.now) out.old }
-    ensures reads_back { ReadsBack K.size K.meaning letter field.now (answer (λ n. n) result) out.new }
+    ensures reads_back { ReadsBack K.LEN K.meaning letter field.now (answer (λ n. n) result) out.new }
 {
     put_packet::<K>(letter, field, out)
 }
 
 fn put_packet<K: Check>(letter: u8, field: &[u8], out: &mut [u8]) -> Result<usize, Refusal>
-    ensures value { answer (λ n. n) result ≡ writing K.size letter field.now (length out.old) }
+    ensures value { answer (λ n. n) result ≡ writing K.LEN letter field.now (length out.old) }
     ensures after { out.new ≡ after_writing (answer (λ n. n) result) (packet K.meaning letter field.now) out.old }
 {
-    let Some(known) = Letter::from_byte(letter) else {
-        return Err(Refusal::UnknownLetter);
-    };
-    if let Err(refusal) = known.accept(field) {
-        return Err(refusal);
-    }
-    let c = K::count();
+    Letter::try_from(letter)?.accept(field)?;
     let end = field.len() + 3;
-    if out.len() < end + c {
+    let length = end + K::LEN;
+    if out.len() < length {
         return Err(Refusal::BufferTooShort);
     }
     put_frame(letter, field, out);
     let check = K::check(&out[1..end]);
-    out[end..end + c].copy_from_slice(&check[0..c]);
-    Ok(end + c)
+    out[end..length].copy_from_slice(&check[..K::LEN]);
+    Ok(length)
 }
 
 // STX, letter, field and ETX at the front of `out`.

@@ -12,7 +12,7 @@ pub struct Xor;
 impl Check for Xor {
     const LEN: usize = 1;
 
-    ghost size = { 1 };
+    ghost LEN = { 1 };
 
     ghost meaning = { xor_check };
 
@@ -25,10 +25,6 @@ impl Check for Xor {
     ghost marked = { xor_marked };
 
     ghost tells = { xor_tells };
-
-    fn count() -> usize {
-        Self::LEN
-    }
 
     fn check(covered: &[u8]) -> [u8; 5] {
         let mut all = 0u8;

@@ -16,7 +16,7 @@ pub struct Pair;
 impl Check for Pair {
     const LEN: usize = 2;
 
-    ghost size = { 2 };
+    ghost LEN = { 2 };
 
     ghost meaning = { pair_check };
 
@@ -29,10 +29,6 @@ impl Check for Pair {
     ghost marked = { λ xs. both_marked (sum_check xs) (xor_check xs) (sum_marked xs) (xor_marked xs) };
 
     ghost tells = { λ xs ys h g a e. sum_tells xs ys h g a (ap (take 1) e) };
-
-    fn count() -> usize {
-        Self::LEN
-    }
 
     fn check(covered: &[u8]) -> [u8; 5] {
         let sum = Sum::check(covered);
@@ -47,7 +43,7 @@ pub struct Five;
 impl Check for Five {
     const LEN: usize = 5;
 
-    ghost size = { 5 };
+    ghost LEN = { 5 };
 
     ghost meaning = { five_check };
 
@@ -60,10 +56,6 @@ impl Check for Five {
     ghost marked = { five_marked };
 
     ghost tells = { λ xs ys h g a e. sum_tells xs ys h g a (ap (take 1) e) };
-
-    fn count() -> usize {
-        Self::LEN
-    }
 
     fn check(covered: &[u8]) -> [u8; 5] {
         let sum = Sum::check(covered);

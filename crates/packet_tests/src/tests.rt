@@ -10,7 +10,7 @@ use packet::xor::Xor;
 fn number<K: Check>(burst: &[u8]) -> u8 {
     match read::<K>(burst) {
         Ok(_) => 0,
-        Err(refusal) => refusal.number(),
+        Err(refusal) => u8::from(refusal),
     }
 }
 
@@ -18,7 +18,7 @@ fn number<K: Check>(burst: &[u8]) -> u8 {
 fn written<K: Check>(letter: u8, field: &[u8], out: &mut [u8]) -> usize {
     match write::<K>(letter, field, out) {
         Ok(n) => n,
-        Err(refusal) => 1000 + refusal.number() as usize,
+        Err(refusal) => 1000 + usize::from(u8::from(refusal)),
     }
 }
 

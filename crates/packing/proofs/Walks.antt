@@ -75,3 +75,11 @@ letter_short xs at n h = sym (get_or_past (lying xs at n) 1 0 (omega (arith, len
 -- two bytes taken out
 pub taken_two : (xs ys zs : List ℕ) (h l : ℕ) → Some h ≡ slice_get xs 0 → ys ≡ drop 1 xs → Some l ≡ slice_get ys 0 → zs ≡ drop 1 ys → xs ≡ h ∷ (l ∷ zs)
 taken_two xs ys zs h l eh ey el ez = taken xs ys h eh ey ∙ ap (λ t. h ∷ t) (taken ys zs l el ez)
+
+-- a burst that was taken out: two bytes for its length, and as many as a part of the place that it fits has
+pub burst_taken : (xs ys zs rs p : List ℕ) (h l n : ℕ) → Packs xs → 104 ≤ length p → Some h ≡ slice_get xs 0 → ys ≡ drop 1 xs → Some l ≡ slice_get ys 0 → zs ≡ drop 1 ys
+    → n ≡ h * 256 + l → rs ≡ drop (length (take n p)) zs → Packs rs × (unpacked rs ≡ drop 1 (unpacked xs))
+burst_taken xs ys zs rs p h l n k room eh ey el ez en er =
+    let r = read xs zs h l n k (taken_two xs ys zs h l eh ey el ez) en in
+    let e : rs ≡ drop n zs = er ∙ ap (λ i. drop i zs) (length-take-le n p (omega (arith, r.few))) in
+    (subst (λ (o : List ℕ). Packs o) (sym e) r.packs, ap unpacked e ∙ sym (ap (drop 1) r.reads))

@@ -1,6 +1,6 @@
 -- What a packed medium does. Assumes nothing.
 use Rattle.std.specs.Prelude.{◌≡◌, ℕ, ◌+◌, Bool, cond, ◌&&◌, List, [], ◌∷◌, ◌++◌, length, nat_le}
-use Rattle.ring.specs.Ring.{elements, places, beyond}
+use Rattle.ring.specs.Ring.{elements, places, InPlace}
 use Rattle.medium.specs.declared.offer.Offer.{Offer}
 use Rattle.medium.specs.Bursts.{carried}
 use Rattle.medium.specs.Offered.{whole_if}
@@ -20,9 +20,8 @@ abbrev pub fits : PackedMedium → List ℕ → Bool
 fits m b = nat_le (length (bytes m) + (2 + length b)) (places m.ring)
 
 -- what all calls leave as it is
-pub record Kept (m m' : PackedMedium) : Type 0 where
-  pub places : places m'.ring ≡ places m.ring
-  pub beyond : beyond m'.ring ≡ beyond m.ring
+abbrev pub Kept : PackedMedium → PackedMedium → Type 0
+Kept m m' = InPlace m.ring m'.ring
 
 -- what an offer of b does: whole, and added, exactly when b is of 1 to 104 bytes and it and its length fit
 pub record PacksIn (m : PackedMedium) (b : List ℕ) (r : Offer) (m' : PackedMedium) : Type 0 where

@@ -1,8 +1,10 @@
 // What a packed medium does.
 ghost use Rattle.std.specs.Prelude.{◌≡◌, min, [], length, drop};
 ghost use Rattle.ring.specs.Ring.{places, beyond, memory};
+ghost use Rattle.packing.specs.AllCarried.{all_carried};
 ghost use Rattle.packing.specs.Packed.{carries, PacksIn, Kept};
 
+use crate::letters::Letters;
 use crate::packed::PackedMedium;
 use crate::rows;
 use medium::class::Class;
@@ -44,6 +46,8 @@ impl<'a> Medium for PackedMedium<'a> {
 
     ghost takes = { Kept };
 
+    ghost all_carried = { all_carried };
+
     fn offer(&mut self, burst: &[u8]) -> Offer {
         if !is_carried(burst) {
             return Offer::Spoilt;
@@ -56,18 +60,20 @@ impl<'a> Medium for PackedMedium<'a> {
     }
 
     fn count(&self) -> usize {
-        rows::count(&self.ring)
+        Letters::of(&self.ring).count()
     }
 
-    fn holds_commands(&self) -> bool {
-        rows::holds(&self.ring, Class::Command)
-    }
-
-    fn holds_answers(&self) -> bool {
-        rows::holds(&self.ring, Class::Answer)
+    fn holds(&self, class: Class) -> bool {
+        Letters::of(&self.ring).any(|letter| class.has(letter))
     }
 
     fn take(&mut self, place: &mut [u8; LONGEST]) -> usize {
-        rows::unpack(&mut self.ring, place)
+        let Some(high) = self.ring.take() else {
+            return 0;
+        };
+        let low = self.ring.take().unwrap();
+        let len = u16::from_be_bytes([high, low]) as usize;
+        rows::take_all(&mut self.ring, &mut place[..len]);
+        len
     }
 }

@@ -1,12 +1,11 @@
 -- What one step of a store does to its elements. A step first puts the span's numbers within the memory.
-use Rattle.std.proofs.Common.{◌≡◌, ℕ, ◌+◌, ◌-◌, ◌<◌, ◌≤◌, min, true, false, ltb, List, [], ◌∷◌, ◌++◌, length, get_or, take, drop, set, Some, None, sym, refl, ap, ◌∙◌, arith}
+use Rattle.std.proofs.Common.{◌≡◌, ℕ, ◌+◌, ◌-◌, ◌<◌, ◌≤◌, min, List, [], ◌∷◌, ◌++◌, length, get_or, take, drop, set, Some, sym, refl, ap, ◌∙◌, arith}
 use lib.Seq.{take-set-lt}
 use Rattle.std.specs.List.{slice_get}
-use Rattle.std.proofs.lemmas.List.{length-take, get_or-take, drop-set-lt, length-set, nil_from_length}
-use Rattle.std.proofs.lemmas.Option.{slice_get_read, slice_get_past}
-use Rattle.std.proofs.lemmas.Bool.{lt-ltb, le-ltb}
+use Rattle.std.proofs.lemmas.List.{length-take, get_or-take, length-set}
+use Rattle.std.proofs.lemmas.Option.{slice_get_read}
 use Rattle.ring.specs.declared.slots.Span.{Span}
-use Rattle.ring.specs.Slots.{around, held, room, place, Within}
+use Rattle.ring.specs.Slots.{around, held, place, Within}
 use Rattle.ring.proofs.Around.{length_around, around_within, get_or_around, place_bound, around_put, around_take}
 
 -- the places that serve
@@ -22,16 +21,10 @@ held_within xs s w e =
     ∙ ap (λ i. around (take s.limit xs) i (min s.len (length (take s.limit xs)))) h
     ∙ ap (λ i. around (take s.limit xs) w.head i) l
 
-pub length_held : {X : Type 0} (xs : List X) (s : Span) → length (held xs s) ≡ min s.len (min (length xs) s.limit)
+length_held : {X : Type 0} (xs : List X) (s : Span) → length (held xs s) ≡ min s.len (min (length xs) s.limit)
 length_held xs s =
     let n = length-take s.limit xs in
     length_around (take s.limit xs) s.head s.len ∙ (let q : min s.len (length (take s.limit xs)) ≡ min s.len (min (length xs) s.limit) = omega arith in q)
-
-pub full : {X : Type 0} (xs : List X) (s w : Span) → Within (length xs) s w → w.limit ≤ w.len → false ≡ ltb (length (held xs s)) (room xs s)
-full xs s w e h = sym (le-ltb (length (held xs s)) (room xs s) (omega (arith, length_held xs s)))
-
-pub free : {X : Type 0} (xs : List X) (s w : Span) → Within (length xs) s w → w.len < w.limit → true ≡ ltb (length (held xs s)) (room xs s)
-free xs s w e h = sym (lt-ltb (length (held xs s)) (room xs s) (omega (arith, length_held xs s)))
 
 -- the place of an element that is there, or of the next one
 spot_bound : (w : Span) (k i : ℕ) → w.head ≤ w.limit → k < w.limit → i ≡ place w.limit w.head k → i < w.limit
@@ -60,12 +53,6 @@ put_after xs s w i x e h p =
     ∙ around_put ys w.head w.len x (omega arith) (omega arith)
     ∙ ap (λ zs. zs ++ x ∷ []) (sym (held_within xs s w e))
 
--- a write leaves the memory beyond the limit
-pub put_beyond : {X : Type 0} (xs : List X) (s w : Span) (k i : ℕ) (x : X) → Within (length xs) s w → k < w.limit → i ≡ place w.limit w.head k
-    → drop s.limit (set xs i x) ≡ drop s.limit xs
-put_beyond xs s w k i x e h p =
-    let b = spot_bound w k i (omega arith) h p in drop-set-lt s.limit xs i x (omega arith)
-
 pub take_after : {X : Type 0} (xs : List X) (s w : Span) (i : ℕ) → Within (length xs) s w → 0 < w.len → i ≡ place w.limit w.head 0
     → held xs (from s (i + 1) (w.len - 1)) ≡ drop 1 (held xs s)
 take_after xs s w i e h p =
@@ -75,14 +62,6 @@ take_after xs s w i e h p =
     ap (λ j. around ys (j + 1) (w.len - 1)) (p ∙ ap (λ m. place m w.head 0) (sym n))
     ∙ around_take ys w.head w.len (omega arith) (omega arith) h
     ∙ ap (drop 1) (sym (held_within xs s w e))
-
--- none to take
-pub take_none : {X : Type 0} (xs : List X) (s w : Span) → Within (length xs) s w → w.len ≡ 0 → held xs s ≡ drop 1 (held xs s)
-take_none xs s w e h =
-    let z = nil_from_length (held xs s) (omega (arith, length_held xs s)) in z ∙ ap (drop 1) (sym z)
-
-pub none_at : {X : Type 0} (xs : List X) (s w : Span) (k : ℕ) → Within (length xs) s w → w.len ≤ k → None ≡ slice_get (held xs s) k
-none_at xs s w k e h = sym (slice_get_past (held xs s) k (omega (arith, length_held xs s)))
 
 pub some_at : {X : Type 0} (xs : List X) (s w : Span) (k i : ℕ) (x : X) → Within (length xs) s w → k < w.len → i ≡ place w.limit w.head k
     → x ≡ get_or xs i x → Some x ≡ slice_get (held xs s) k

@@ -1,13 +1,16 @@
 // A first-in first-out store in its user's memory, for every kind of element that is copied.
 #![tactic(auto)]
 
+pub mod iter;
 pub mod slots;
 
 ghost use Rattle.std.specs.Prelude.{◌≡◌, min, [], ◌∷◌, ◌++◌, length, drop, if◌then◌else◌, nat_lt};
 ghost use Rattle.std.specs.List.{slice_get};
-ghost use Rattle.ring.specs.Ring.{elements, places, beyond, memory};
+ghost use Rattle.ring.specs.Iter.{left};
+ghost use Rattle.ring.specs.Ring.{elements, places, beyond, memory, InPlace};
 ghost use Rattle.ring.specs.Slots.{held};
 
+use iter::Iter;
 use slots::Span;
 
 // A store of up to `limit` elements in memory that its user lends.
@@ -57,13 +60,9 @@ impl<'a, T: Copy> Ring<'a, T> {
     pub fn put(&mut self, x: T) -> bool
         ensures test { result ≡ nat_lt (length (elements self.old)) (places self.old) }
         ensures after { elements self.new ≡ (if result then elements self.old ++ x ∷ [] else elements self.old) }
-        ensures places { places self.new ≡ places self.old }
-        ensures beyond { beyond self.new ≡ beyond self.old }
+        ensures place { InPlace self.old self.new }
     {
-        let mut longer = self.span;
-        let done = slots::put(self.slots, &mut longer, x);
-        self.span = longer;
-        done
+        slots::put(self.slots, &mut self.span, x)
     }
 
     // The k-th oldest element, counted from 0.
@@ -77,8 +76,7 @@ impl<'a, T: Copy> Ring<'a, T> {
     pub fn take(&mut self) -> Option<T>
         ensures value { result ≡ slice_get (elements self.old) 0 }
         ensures after { elements self.new ≡ drop 1 (elements self.old) }
-        ensures places { places self.new ≡ places self.old }
-        ensures beyond { beyond self.new ≡ beyond self.old }
+        ensures place { InPlace self.old self.new }
     {
         let mut rest = self.span;
         let oldest = self.take_from(&mut rest);
@@ -86,12 +84,23 @@ impl<'a, T: Copy> Ring<'a, T> {
         oldest
     }
 
-    // Takes the oldest element of the memory out of a span of it.
+    // Takes the oldest element of the memory out of a span of it. The borrow checker does not
+    // cover the call in `take` itself, where `slots` would be lent as `&` and `span` as `&mut`.
     fn take_from(&self, span: &mut Span) -> Option<T>
         ensures value { result ≡ slice_get (held self.now.slots.now span.old) 0 }
         ensures after { held self.now.slots.now span.new ≡ drop 1 (held self.now.slots.now span.old) }
         ensures limit { span.new.limit ≡ span.old.limit }
     {
         slots::take(self.slots, span)
+    }
+
+    // Its elements, from the oldest on.
+    pub fn iter(&self) -> Iter<'_, T>
+        ensures { left result ≡ elements self.now }
+    {
+        Iter {
+            slots: self.slots,
+            span: self.span,
+        }
     }
 }

@@ -7,6 +7,6 @@ returns g c =
     let is = c.take_apart.ensures in
     record {
       value = is;
-      as_written = read_as_written g.K.Check.size g.K.Check.meaning g.met.K.Check.sized c.args.burst.now _ is;
-      altered = altered_refused g.K.Check.size g.K.Check.meaning g.met.K.Check.sized g.met.K.Check.tells c.args.burst.now _ is;
+      as_written = read_as_written g.K.Check.LEN g.K.Check.meaning g.met.K.Check.sized c.args.burst.now _ is;
+      altered = altered_refused g.K.Check.LEN g.K.Check.meaning g.met.K.Check.sized g.met.K.Check.tells c.args.burst.now _ is;
     }

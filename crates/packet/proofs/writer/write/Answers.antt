@@ -7,5 +7,5 @@ returns g c =
     record {
       value = put.value;
       after = put.after;
-      reads_back = back g.K.Check.size g.K.Check.meaning g.met.K.Check.sized c.args.letter c.args.field.now _ _ c.args.out.now put.value put.after;
+      reads_back = back g.K.Check.LEN g.K.Check.meaning g.met.K.Check.sized c.args.letter c.args.field.now _ _ c.args.out.now put.value put.after;
     }

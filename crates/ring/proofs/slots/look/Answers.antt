@@ -1,11 +1,6 @@
 use Rattle.std.proofs.Common.{arith}
-use Rattle.ring.proofs.Spans.{none_at, some_at}
+use Rattle.ring.proofs.Spans.{some_at}
 use Rattle.ring.proofs.slots.look.Goals as goal
-
-pub returns-then-k-s : goal.returns-then-k-s
-returns-then-k-s g c =
-    none_at c.args.slots.now c.args.span c.within-s.result c.args.k
-    c.within-s.ensures (omega arith)
 
 pub returns : goal.returns
 returns g c =

@@ -20,7 +20,7 @@ returns-then-pack c =
           c.args.self.now.packs (omega arith, omega arith) c.pack.ensures.after;
     } in
     let x = packed_in c.args.self.now m' c.args.burst.now true (omega arith, omega arith)
-    c.if-pack.ensures.value c.if-pack.ensures.after record { places = c.pack.ensures.places; beyond = c.pack.ensures.beyond } in
+    c.if-pack.ensures.value c.if-pack.ensures.after c.pack.ensures.place in
     record {
       meaning = meaning c.args.self.now c.args.burst.now Whole m' x;
       exact = record { answer = x.answer; bursts = x.bursts; bytes = x.bytes; kept = record { places = x.kept.places; beyond = x.kept.beyond } };
