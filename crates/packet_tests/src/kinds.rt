@@ -31,9 +31,9 @@ impl Check for Pair {
     ghost tells = { λ xs ys h g a e. sum_tells xs ys h g a (ap (take 1) e) };
 
     fn check(covered: &[u8]) -> [u8; 5] {
-        let sum = Sum::check(covered);
-        let xor = Xor::check(covered);
-        [sum[0], xor[0], 0, 0, 0]
+        let [sum, ..] = Sum::check(covered);
+        let [xor, ..] = Xor::check(covered);
+        [sum, xor, 0, 0, 0]
     }
 }
 
@@ -58,8 +58,8 @@ impl Check for Five {
     ghost tells = { λ xs ys h g a e. sum_tells xs ys h g a (ap (take 1) e) };
 
     fn check(covered: &[u8]) -> [u8; 5] {
-        let sum = Sum::check(covered);
-        let xor = Xor::check(covered);
-        [sum[0], xor[0], xor[0], sum[0], sum[0]]
+        let [sum, ..] = Sum::check(covered);
+        let [xor, ..] = Xor::check(covered);
+        [sum, xor, xor, sum, sum]
     }
 }

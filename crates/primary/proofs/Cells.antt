@@ -21,10 +21,10 @@ turned_to ph a os s = record { phase = ph; number = s.number; attempts = a; cred
 
 -- the step e with one arrival, and with one message given up and n without connection
 abbrev arriving : Step → Step
-arriving e = record { sent = e.sent; timer = e.timer; arrived = 1; given_up = e.given_up; no_connection = e.no_connection }
+arriving e = record { sent = e.sent; timer = e.timer; tally = record { arrived = 1; given_up = 0; no_connection = 0 } }
 
 abbrev giving_up : ℕ → Step → Step
-giving_up n e = record { sent = e.sent; timer = e.timer; arrived = e.arrived; given_up = 1; no_connection = n }
+giving_up n e = record { sent = e.sent; timer = e.timer; tally = record { arrived = 0; given_up = 1; no_connection = n } }
 
 -- the current message arrived, and w waited behind it
 pub arrive_last : (s : Station) (w : List Message) (os : List Outcome) (e : Step) → length w ≡ 0 → os ≡ s.outcomes ++ Arrived ∷ [] → e ≡ still
@@ -36,7 +36,7 @@ pub arrive_more : (s next : Station) (w w' : List Message) (os : List Outcome) (
     → done_by next e ≡ sends_next (get_or w' 0 []) (drop 1 w') 0 (turned_to (phase_of Waiting w') s.attempts os s) → done_by next (arriving e) ≡ arrives w s
 arrive_more s next [] w' os e pos same told is = absurd (omega arith)
 arrive_more s next (m ∷ w) w' os e pos same told is =
-    ap (λ (d : Did). record { next = d.next; sent = d.sent; timer = d.timer; arrivals = 1; give_ups = d.give_ups; no_connections = d.no_connections }) is
+    ap (λ (d : Did). record { next = d.next; sent = d.sent; timer = d.timer; arrivals = 1; give_ups = 0; no_connections = 0 }) is
     ∙ ap (λ (x : List Message). sends_next (get_or x 0 []) (drop 1 x) 1 (turned_to (phase_of Waiting x) s.attempts os s)) same
     ∙ ap (λ (x : List Outcome). sends_next m w 1 (turned_to (phase_of Waiting (m ∷ w)) s.attempts x s)) told
 

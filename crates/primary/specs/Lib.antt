@@ -2,6 +2,7 @@ pub mod Buffers
 pub mod Busy
 pub mod Events
 pub mod Model
+pub mod Names
 pub mod Outcomes
 pub mod Rules
 pub mod Station

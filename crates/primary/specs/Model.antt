@@ -3,8 +3,8 @@ use Rattle.std.specs.Prelude.{List, [], drop, Some, None, Option, slice_index_or
 use Rattle.std.specs.Option.{option_map}
 use Rattle.primary.specs.declared.event.Event.{Event}
 use Rattle.primary.specs.declared.event.Event.TheVariants as event
-use Rattle.primary.specs.declared.event.Sent.{Sent}
-use Rattle.primary.specs.declared.event.Sent.TheVariants as sent
+use Rattle.primary.specs.declared.event.Command.{Command as Sent}
+use Rattle.primary.specs.declared.event.Command.TheVariants as sent
 use Rattle.primary.specs.declared.event.Step.{Step}
 use Rattle.primary.specs.declared.station.State.{State}
 use Rattle.primary.specs.declared.station.State.TheVariants.{Off, Ready, Waiting, Asking}
@@ -36,14 +36,14 @@ heard (event.Ack n k) = ack (is_one n) k
 heard event.Timeout = timeout
 
 -- DATA carries the current message
-abbrev pub command : Sent → Option Message → Option Command
-command sent.Nothing m = None
-command sent.Enq m = Some ENQ
-command (sent.Data n) m = option_map (DATA (is_one n)) m
+abbrev pub command : Option Sent → Option Message → Option Command
+command None m = None
+command (Some sent.Enq) m = Some ENQ
+command (Some (sent.Data n)) m = option_map (DATA (is_one n)) m
 
 -- what was done by a step that left the station so
 abbrev pub done_by : Station → Step → Did
-done_by s e = record { next = s; sent = command e.sent (current_in s.phase); timer = e.timer; arrivals = e.arrived; give_ups = e.given_up; no_connections = e.no_connection }
+done_by s e = record { next = s; sent = command e.sent (current_in s.phase); timer = e.timer; arrivals = e.tally.arrived; give_ups = e.tally.given_up; no_connections = e.tally.no_connection }
 
 abbrev pub did : Primary → Step → Did
 did p e = done_by (model p) e

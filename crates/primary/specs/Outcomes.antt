@@ -1,9 +1,14 @@
--- The number of each outcome. Assumes nothing.
-use Rattle.std.specs.Prelude.{ℕ}
+-- The number of each outcome, and counts of them in print. Assumes nothing.
+use Rattle.std.specs.Prelude.{ℕ, List, ◌++◌, codes, decimal}
 use Rattle.primary.specs.declared.outcome.Outcome.{Outcome}
 use Rattle.primary.specs.declared.outcome.Outcome.TheVariants.{Arrived, GivenUp, NoConnection}
+use Rattle.primary.specs.declared.outcome.Tally.{Tally}
 
 abbrev pub outcome_number : Outcome → ℕ
 outcome_number Arrived = 1
 outcome_number GivenUp = 2
 outcome_number NoConnection = 3
+
+-- `1,0,2`
+abbrev pub tally_text : Tally → List ℕ
+tally_text t = decimal t.arrived ++ (codes "," ++ (decimal t.given_up ++ (codes "," ++ decimal t.no_connection)))

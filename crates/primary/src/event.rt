@@ -1,14 +1,14 @@
 // What a primary station hears and what it then does.
-ghost use Rattle.std.specs.Prelude.{◌≡◌};
-ghost use Rattle.packet.specs.Numbers.{is_one};
-ghost use Rattle.primary.specs.Events.{still, asks_again, carries};
-ghost use Rattle.primary.specs.Model.{heard};
-ghost use Rattle.primary.specs.Station.{reset, ack, timeout};
+ghost use Rattle.std.specs.Prelude.{◌≡◌, Some};
+ghost use Rattle.primary.specs.Events.{asks_again, carries};
+ghost use Rattle.primary.specs.Names.{timer_text};
 
+use crate::outcome::Tally;
 use packet::number::Number;
+use std::fmt;
 
 // A message to send, an answer heard (ACK with its number and credit), or no answer in time.
-#[derive(Clone, Copy)]
+#[derive(Clone, Copy, PartialEq, Eq)]
 pub enum Event<'a> {
     Submission(&'a [u8]),
     Reset,
@@ -16,71 +16,48 @@ pub enum Event<'a> {
     Timeout,
 }
 
-impl Event<'_> {
-    pub fn reset() -> Event<'static>
-        ensures { heard result ≡ reset }
-    {
-        Event::Reset
-    }
-
-    pub fn ack(number: Number, credit: u8) -> Event<'static>
-        ensures { heard result ≡ ack (is_one number) credit }
-    {
-        Event::Ack(number, credit)
-    }
-
-    pub fn timeout() -> Event<'static>
-        ensures { heard result ≡ timeout }
-    {
-        Event::Timeout
-    }
-}
-
-#[derive(Clone, Copy)]
+// The command that a timer waits for an answer to.
+#[derive(Clone, Copy, Debug, PartialEq, Eq)]
 pub enum Timer {
     Enq,
     Data,
 }
 
-// The command sent; DATA carries the station's current message.
-#[derive(Clone, Copy)]
-pub enum Sent {
-    Nothing,
+impl fmt::Display for Timer {
+    ghost output = { λ timer. Some (timer_text timer) };
+
+    fn fmt<W: fmt::Write>(&self, f: &mut fmt::Formatter<W>) -> fmt::Result {
+        f.write_str(match self {
+            Timer::Enq => "enq",
+            Timer::Data => "data",
+        })
+    }
+}
+
+// A command sent; DATA carries the station's current message.
+#[derive(Clone, Copy, PartialEq, Eq)]
+pub enum Command {
     Enq,
     Data(Number),
 }
 
 // The command sent, the timer set with it, and how many messages got each outcome.
-#[derive(Clone, Copy)]
+#[derive(Clone, Copy, Default, PartialEq, Eq)]
 pub struct Step {
-    pub sent: Sent,
+    pub sent: Option<Command>,
     pub timer: Option<Timer>,
-    pub arrived: u8,
-    pub given_up: u8,
-    pub no_connection: u8,
+    pub tally: Tally,
 }
 
 impl Step {
-    pub(crate) fn nothing() -> Step
-        ensures { result ≡ still }
-    {
-        Step {
-            sent: Sent::Nothing,
-            timer: None,
-            arrived: 0,
-            given_up: 0,
-            no_connection: 0,
-        }
-    }
-
     // ENQ with its timer. Opening a station sends this too.
     pub fn enq() -> Step
         ensures { result ≡ asks_again }
     {
         Step {
-            sent: Sent::Enq,
+            sent: Some(Command::Enq),
             timer: Some(Timer::Enq),
-            ..Step::nothing()
+            ..Step::default()
         }
     }
 
@@ -89,9 +66,9 @@ impl Step {
         ensures { result ≡ carries number }
     {
         Step {
-            sent: Sent::Data(number),
+            sent: Some(Command::Data(number)),
             timer: Some(Timer::Data),
-            ..Step::nothing()
+            ..Step::default()
         }
     }
 }

@@ -1,14 +1,16 @@
 // The primary station, as data.
-ghost use Rattle.std.specs.Prelude.{◌+◌, ◌*◌, ◌≤◌};
+ghost use Rattle.std.specs.Prelude.{◌+◌, ◌*◌, ◌≤◌, Some};
 ghost use Rattle.primary.specs.Busy.{under_way};
+ghost use Rattle.primary.specs.Names.{state_text};
 
 use crate::buffers::SendBuffers;
 use packet::number::Number;
+use std::fmt;
 
 mod cells;
 mod questions;
 
-#[derive(Clone, Copy)]
+#[derive(Clone, Copy, Debug, PartialEq, Eq)]
 pub enum State {
     Off,
     Ready,
@@ -18,9 +20,22 @@ pub enum State {
     Asking,
 }
 
+impl fmt::Display for State {
+    ghost output = { λ state. Some (state_text state) };
+
+    fn fmt<W: fmt::Write>(&self, f: &mut fmt::Formatter<W>) -> fmt::Result {
+        f.write_str(match self {
+            State::Off => "Off",
+            State::Ready => "Ready",
+            State::Waiting => "Waiting",
+            State::Asking => "Asking",
+        })
+    }
+}
+
 // What a station tells of itself: its state, the number of its last DATA, its attempts, the credit last heard (9 if none
 // was), how many messages are without outcome and how many outcomes are not collected.
-#[derive(Clone, Copy)]
+#[derive(Clone, Copy, PartialEq, Eq)]
 pub struct Status {
     pub state: State,
     pub number: Number,

@@ -1,11 +1,10 @@
 -- Deliveries leave in the order stored. Assumes nothing.
-use Rattle.std.proofs.Common.{◌≡◌, ℕ, ◌-◌, Bool, true, false, cond, not, ◌&&◌, eqb, ltb, List, [], ◌∷◌, ◌++◌, length, drop, sym, refl, ap, ◌∙◌, subst, arith}
+use Rattle.std.proofs.Common.{◌≡◌, ℕ, ◌-◌, Bool, true, false, cond, not, ◌&&◌, eqb, ltb, List, [], ◌∷◌, ◌++◌, length, drop, Some, None, Option, sym, refl, ap, ◌∙◌, subst, arith}
 use Rattle.std.proofs.lemmas.List.{append_assoc, append-nil}
 use Rattle.packet.specs.Letters.{between}
 use Rattle.packet.specs.Refusals.{◌⇒◌, judged}
 use Rattle.packet.specs.declared.number.Number.{Number}
-use Rattle.secondary.specs.declared.reply.Reply.{Reply}
-use Rattle.secondary.specs.declared.reply.Response.TheVariants as response
+use Rattle.secondary.specs.declared.reply.Answer.TheVariants.{Ack}
 use Rattle.secondary.specs.Buffers.{oldest_of}
 use Rattle.secondary.specs.Laws.{Call, Enq, Data, Take, Give, after, after_all, acked, stored_by, in_hand, given_by, stored_all, given_all, LeaveInOrder}
 use Rattle.secondary.specs.Station.{Message, Station, or_kept, free_buffers, oldest_buffer, stored, lent, freed, opened}
@@ -29,7 +28,7 @@ hand_more hand false held m h = h
 
 -- `t` refuses the message, `u` says that a buffer is free
 step_data : (t u : Bool) (n : Number) (credit : ℕ) (m : Message) (hand : List Message) (s : Station) → Hand hand s.out s.held
-    → Step hand [] (acked (judged (t ⇒ 16 ∷ []) (cond u (response.Ack n credit) response.Nothing)) m) hand s (or_kept (judged (t ⇒ 16 ∷ []) (cond u (stored n m s) s)) s)
+    → Step hand [] (acked (judged (t ⇒ 16 ∷ []) (cond u (Some (Ack n credit)) None)) m) hand s (or_kept (judged (t ⇒ 16 ∷ []) (cond u (stored n m s) s)) s)
 step_data true u n credit m hand s h = nothing hand s h
 step_data false true n credit m hand s h = record { adds = refl; holds = hand_more hand s.out s.held m h }
 step_data false false n credit m hand s h = nothing hand s h
@@ -39,7 +38,7 @@ some_held [] e = absurd (let z : ◌≡◌ {A = ℕ} 0 1 = cc in omega arith)
 some_held (m ∷ ms) e = (m, ms, refl)
 
 -- `t` refuses the place, `u` says that none is held
-step_take : (t u out : Bool) (line : ℕ) (last : Reply) (held : List Message) (next : ℕ) (hand : List Message)
+step_take : (t u out : Bool) (line : ℕ) (last : Option Number) (held : List Message) (next : ℕ) (hand : List Message)
     → (u ≡ false → (m : Message) × (ms : List Message) × (held ≡ m ∷ ms)) → Hand hand out held
     → let s : Station = record { line = line; last = last; held = held; next = next; out = out } in
     Step hand [] [] (or_kept (judged (t ⇒ 21 ∷ out ⇒ 22 ∷ u ⇒ 23 ∷ []) (oldest_of held ∷ [])) hand) s (or_kept (judged (t ⇒ 21 ∷ out ⇒ 22 ∷ u ⇒ 23 ∷ []) (lent s)) s)
@@ -51,7 +50,7 @@ step_take false false false line last held next hand some h =
     record { adds = sym (append-nil held); holds = (first.0, first.1, ap (λ (ms : List Message). oldest_of ms ∷ []) first.2, first.2) }
 
 -- `x` and `y` say that line number and buffer number fit
-step_give : (x y out : Bool) (line : ℕ) (last : Reply) (held : List Message) (next : ℕ) (hand : List Message) → Hand hand out held
+step_give : (x y out : Bool) (line : ℕ) (last : Option Number) (held : List Message) (next : ℕ) (hand : List Message) → Hand hand out held
     → let s : Station = record { line = line; last = last; held = held; next = next; out = out } in
     Step hand (or_kept (judged (not (x && (out && y)) ⇒ 24 ∷ []) hand) []) [] (or_kept (judged (not (x && (out && y)) ⇒ 24 ∷ []) []) hand) s
     (or_kept (judged (not (x && (out && y)) ⇒ 24 ∷ []) (freed s)) s)

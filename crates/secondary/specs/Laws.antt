@@ -1,9 +1,9 @@
 -- What holds of a station over any calls. Assumes nothing.
-use Rattle.std.specs.Prelude.{◌≡◌, ℕ, ◌≤◌, List, [], ◌∷◌, ◌++◌, ◌≢◌}
+use Rattle.std.specs.Prelude.{◌≡◌, ℕ, ◌≤◌, List, [], ◌∷◌, ◌++◌, ◌≢◌, Some, None, Option}
 use Rattle.packet.specs.Refusals.{Answer, refused, gave, judged}
 use Rattle.packet.specs.declared.number.Number.{Number}
-use Rattle.secondary.specs.declared.reply.Response.{Response}
-use Rattle.secondary.specs.declared.reply.Response.TheVariants as response
+use Rattle.secondary.specs.declared.reply.Answer.{Answer as Reply}
+use Rattle.secondary.specs.declared.reply.Answer.TheVariants.{Reset, Ack}
 use Rattle.secondary.specs.Buffers.{oldest_of}
 use Rattle.secondary.specs.Station.{Message, Station, or_kept, data_answer, after_data, take_rules, take_answer, after_take, give_rules, give_answer, after_give}
 
@@ -25,11 +25,11 @@ after_all [] s = s
 after_all (c ∷ cs) s = after_all cs (after c s)
 
 -- the message of a DATA that is answered by an ACK
-abbrev pub acked : Answer Response → Message → List Message
+abbrev pub acked : Answer (Option Reply) → Message → List Message
 acked (refused n) m = []
-acked (gave response.Nothing) m = []
-acked (gave response.Reset) m = []
-acked (gave (response.Ack n credit)) m = m ∷ []
+acked (gave None) m = []
+acked (gave (Some Reset)) m = []
+acked (gave (Some (Ack n credit))) m = m ∷ []
 
 abbrev pub stored_by : Call → Station → List Message
 stored_by (Enq limit) s = []

@@ -4,10 +4,8 @@ use Rattle.packet.specs.Letters.{between}
 use Rattle.packet.specs.declared.refusal.Refusal.{Refusal}
 use Rattle.packet.specs.Refusals.{Answer, refused, gave, Rule, ◌⇒◌, judged, number_of}
 use Rattle.packet.specs.declared.number.Number.{Number}
-use Rattle.secondary.specs.declared.reply.Reply.{Reply}
-use Rattle.secondary.specs.declared.reply.Reply.TheVariants as reply
-use Rattle.secondary.specs.declared.reply.Response.{Response}
-use Rattle.secondary.specs.declared.reply.Response.TheVariants as response
+use Rattle.secondary.specs.declared.reply.Answer.{Answer as Reply}
+use Rattle.secondary.specs.declared.reply.Answer.TheVariants.{Reset, Ack}
 use Rattle.secondary.specs.declared.station.DeliverySlip.{DeliverySlip}
 use Rattle.secondary.specs.declared.station.Secondary.{Secondary}
 use Rattle.secondary.specs.Buffers.{messages, next_buffer, oldest_of}
@@ -15,11 +13,11 @@ use Rattle.secondary.specs.Buffers.{messages, next_buffer, oldest_of}
 abbrev pub Message : Type 0
 Message = List ℕ
 
--- its line number, its last answer, the messages held, oldest first, the number of the buffer that the next message goes
+-- its line number, the number of its last ACK (none while the last answer is RESET), the messages held, oldest first, the number of the buffer that the next message goes
 -- into, and whether the oldest message is out
 pub record Station : Type 0 where
   pub line : ℕ
-  pub last : Reply
+  pub last : Option Number
   pub held : List Message
   pub next : ℕ
   pub out : Bool
@@ -28,7 +26,7 @@ abbrev pub model : Secondary → Station
 model s = record { line = s.line; last = s.last; held = messages s.deliveries; next = next_buffer s.deliveries; out = s.out }
 
 abbrev pub opened : ℕ → Station
-opened line = record { line = line; last = reply.Reset; held = []; next = 0; out = false }
+opened line = record { line = line; last = None; held = []; next = 0; out = false }
 
 -- a refusal leaves what was there
 abbrev pub or_kept : {X : Type 0} → Answer X → X → X
@@ -47,22 +45,22 @@ abbrev pub buffer_out : Station → Option ℕ
 buffer_out s = cond s.out (Some (oldest_buffer s)) None
 
 -- ENQ: the last answer again, an ACK with the credit of now
-abbrev pub with_credit : Reply → ℕ → Response
-with_credit reply.Reset credit = response.Reset
-with_credit (reply.Ack n) credit = response.Ack n credit
+abbrev pub with_credit : Option Number → ℕ → Reply
+with_credit None credit = Reset
+with_credit (Some n) credit = Ack n credit
 
-abbrev pub enq_answer : ℕ → Station → Response
-enq_answer limit s = cond (nat_lt 0 (free_buffers limit s)) (with_credit s.last (free_buffers limit s)) response.Nothing
+abbrev pub enq_answer : ℕ → Station → Option Reply
+enq_answer limit s = cond (nat_lt 0 (free_buffers limit s)) (Some (with_credit s.last (free_buffers limit s))) None
 
 -- DATA: stored while a buffer is free; the credit counts the buffer just used
 abbrev pub message_rules : Message → List Rule
 message_rules m = not (between 1 96 (length m)) ⇒ 16 ∷ []
 
 abbrev pub stored : Number → Message → Station → Station
-stored n m s = record { line = s.line; last = reply.Ack n; held = s.held ++ m ∷ []; next = (s.next + 1) % 8; out = s.out }
+stored n m s = record { line = s.line; last = Some n; held = s.held ++ m ∷ []; next = (s.next + 1) % 8; out = s.out }
 
-abbrev pub data_answer : ℕ → Number → Message → Station → Answer Response
-data_answer limit n m s = judged (message_rules m) (cond (nat_lt 0 (free_buffers limit s)) (response.Ack n (free_buffers limit s - 1)) response.Nothing)
+abbrev pub data_answer : ℕ → Number → Message → Station → Answer (Option Reply)
+data_answer limit n m s = judged (message_rules m) (cond (nat_lt 0 (free_buffers limit s)) (Some (Ack n (free_buffers limit s - 1))) None)
 
 abbrev pub after_data : ℕ → Number → Message → Station → Station
 after_data limit n m s = or_kept (judged (message_rules m) (cond (nat_lt 0 (free_buffers limit s)) (stored n m s) s)) s

@@ -1,8 +1,8 @@
 -- Worked answers of a secondary station on line 0. The crate station asks for them. Assumes nothing.
-use Rattle.std.specs.Prelude.{◌≡◌, [], ◌∷◌}
+use Rattle.std.specs.Prelude.{◌≡◌, [], ◌∷◌, Some, None}
 use Rattle.packet.specs.Refusals.{refused, gave}
 use Rattle.packet.specs.declared.number.Number.TheVariants.{Zero, One}
-use Rattle.secondary.specs.declared.reply.Response.TheVariants.{Nothing, Reset, Ack}
+use Rattle.secondary.specs.declared.reply.Answer.TheVariants.{Reset, Ack}
 use Rattle.secondary.specs.Laws.{Data, Take, Give, after_all}
 use Rattle.secondary.specs.Station.{Message, Station, opened, enq_answer, data_answer, take_answer, give_answer}
 
@@ -21,14 +21,14 @@ one_out = after_all (Data 8 One OK ∷ Take 96 ∷ []) fresh
 abbrev pub Worked : Type 0
 Worked =
     -- at opening ENQ gets RESET, and DATA_1 under R = 8 gets ACK_1 with credit 7
-    (enq_answer 8 fresh ≡ Reset)
-    × (data_answer 8 One OK fresh ≡ gave (Ack One 7))
+    (enq_answer 8 fresh ≡ Some Reset)
+    × (data_answer 8 One OK fresh ≡ gave (Some (Ack One 7)))
     -- ENQ then gets the ACK again, with the credit of now
-    × (enq_answer 8 one_held ≡ Ack One 7)
-    × (enq_answer 3 one_held ≡ Ack One 2)
+    × (enq_answer 8 one_held ≡ Some (Ack One 7))
+    × (enq_answer 3 one_held ≡ Some (Ack One 2))
     -- R = 1 and one delivery held: neither command gets an answer
-    × (enq_answer 1 one_held ≡ Nothing)
-    × (data_answer 1 Zero OK one_held ≡ gave Nothing)
+    × (enq_answer 1 one_held ≡ None)
+    × (data_answer 1 Zero OK one_held ≡ gave None)
     -- the same DATA twice is stored twice
     × ((after_all (Data 8 One OK ∷ Data 8 One OK ∷ []) fresh).held ≡ OK ∷ OK ∷ [])
     -- a message of no bytes is refused

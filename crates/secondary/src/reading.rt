@@ -13,12 +13,7 @@ pub fn read_out(station: &mut Secondary, place: &mut [u8]) -> Result<usize, Refu
     ensures copied { place.new ≡ place_after (model station.old) place.old }
     ensures unchanged { OnErr result (station.new ≡ station.old) }
 {
-    let (length, slip) = match station.take(place) {
-        Ok(delivery) => delivery,
-        Err(refusal) => return Err(refusal),
-    };
-    match station.give_back(slip) {
-        Ok(()) => Ok(length),
-        Err((_, _slip)) => unreachable(),
-    }
+    let (length, slip) = station.take(place)?;
+    station.give_back(slip).unwrap();
+    Ok(length)
 }

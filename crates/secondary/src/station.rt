@@ -3,7 +3,7 @@ ghost use Rattle.std.specs.Prelude.{◌≤◌};
 ghost use Rattle.secondary.specs.Held.{count_out};
 
 use crate::deliveries::Deliveries;
-use crate::reply::Reply;
+use packet::number::Number;
 
 // Stands for the delivery that is out. Made by taking it, neither copied nor let go, spent by giving it back.
 pub struct DeliverySlip {
@@ -11,11 +11,11 @@ pub struct DeliverySlip {
     buffer: u8,
 }
 
-// `out` says that the oldest delivery is out.
+// `last` is the number of the last ACK, none while the last answer is RESET. `out` says that the oldest delivery is out.
 #[derive(Drop)]
 pub struct Secondary {
     line: u8,
-    last: Reply,
+    last: Option<Number>,
     deliveries: Deliveries,
     out: bool,
     ghost one_held: { count_out out ≤ deliveries.held },

@@ -1,3 +1,4 @@
+pub mod Hearing
 pub mod Orders
 pub mod Same
 pub mod Sendable

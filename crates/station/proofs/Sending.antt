@@ -3,7 +3,8 @@ use Rattle.std.proofs.Common.{◌≡◌, ℕ, ◌+◌, ◌≤◌, true, not, Lis
 use Rattle.std.proofs.lemmas.Bool.{le-ltb}
 use Rattle.std.proofs.lemmas.Bool.Decides.{nat_tests}
 use Rattle.packet.specs.declared.letter.Letter.{Letter}
-use Rattle.packet.specs.declared.letter.Letter.TheVariants.{Enq, Data0, Data1, Ack0, Ack1, Reset}
+use Rattle.packet.specs.declared.letter.Letter.TheVariants.{Enq, Data, Ack, Reset}
+use Rattle.packet.specs.declared.number.Number.TheVariants.{Zero, One}
 use Rattle.packet.specs.Bytes.{byte_of}
 use Rattle.packet.specs.Format.{packet, writing, writing_rules, after_writing}
 use Rattle.packet.specs.Letters.{known, fits, allowed}
@@ -13,10 +14,10 @@ use Rattle.packet.proofs.Roundtrip.{packet_long}
 
 pub letter_known : (l : Letter) → known (byte_of l) ≡ true
 letter_known Enq = refl
-letter_known Data0 = refl
-letter_known Data1 = refl
-letter_known Ack0 = refl
-letter_known Ack1 = refl
+letter_known (Data Zero) = refl
+letter_known (Data One) = refl
+letter_known (Ack Zero) = refl
+letter_known (Ack One) = refl
 letter_known Reset = refl
 
 fits_short : (l n : ℕ) → fits l n ≡ true → n ≤ 96

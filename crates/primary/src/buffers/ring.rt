@@ -28,7 +28,7 @@ impl SendBuffer {
 pub(crate) fn check_message(message: &[u8]) -> Result<(), Refusal>
     ensures { answer (λ u. u) result ≡ judged (message_rules message.now) tt }
 {
-    if message.len() < 1 || message.len() > 96 {
+    if !(1..=96).contains(&message.len()) {
         return Err(Refusal::MessageLength);
     }
     if !all_between(0x20, 0x7e, message) {
@@ -74,9 +74,7 @@ impl SendBuffers {
         ensures value { answer (λ u. u) result ≡ judged (message_rules message.now ++ room_rules (length (unsettled self.now) + length (uncollected self.now))) tt }
         ensures fits { OnOk result ((length message.now ≤ 96) × (self.now.used < 8)) }
     {
-        if let Err(refusal) = check_message(message) {
-            return Err(refusal);
-        }
+        check_message(message)?;
         if self.used == CAPACITY {
             return Err(Refusal::SendBuffersFull);
         }
@@ -124,7 +122,7 @@ impl SendBuffers {
         ensures told { uncollected self.new ≡ uncollected self.old ++ replicate (length (unsettled self.old)) NoConnection }
         ensures count { self.new.done ≡ self.new.used }
     {
-        while self.done < self.used {
+        for _ in 0..self.unsettled() {
             self.settle(Outcome::NoConnection);
         }
     }

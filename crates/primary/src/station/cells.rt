@@ -11,10 +11,17 @@ ghost use Rattle.primary.specs.Table.{at, moved, credited, rests, asks, sends_ag
 
 use crate::buffers::ring::check_message;
 use crate::event::{Event, Step};
-use crate::outcome::Outcome;
+use crate::outcome::{Outcome, Tally};
 use crate::station::{Primary, State};
 use packet::number::Number;
 use packet::refusal::Refusal;
+
+// One message has arrived.
+const ARRIVAL: Tally = Tally {
+    arrived: 1,
+    given_up: 0,
+    no_connection: 0,
+};
 
 impl Primary {
     fn ask(&mut self) -> Step
@@ -30,7 +37,7 @@ impl Primary {
         ensures { did self.new result ≡ rests (at ready (model self.old)) }
     {
         self.state = State::Ready;
-        Step::nothing()
+        Step::default()
     }
 
     // An ACK came while the station was off.
@@ -48,7 +55,7 @@ impl Primary {
         ensures { did self.new result ≡ rests (credited credit (model self.old)) }
     {
         self.credit = credit;
-        Step::nothing()
+        Step::default()
     }
 
     // The oldest message without outcome is sent under the other number.
@@ -81,13 +88,13 @@ impl Primary {
             self.state = State::Ready;
             self.attempts = 0;
             return Step {
-                arrived: 1,
-                ..Step::nothing()
+                tally: ARRIVAL,
+                ..Step::default()
             };
         }
         self.state = State::Waiting;
         Step {
-            arrived: 1,
+            tally: ARRIVAL,
             ..self.send_next()
         }
     }
@@ -139,8 +146,11 @@ impl Primary {
         let waiting = self.buffers.unsettled() as u8;
         self.buffers.settle_rest();
         Step {
-            given_up: 1,
-            no_connection: waiting,
+            tally: Tally {
+                arrived: 0,
+                given_up: 1,
+                no_connection: waiting,
+            },
             ..Step::enq()
         }
     }
@@ -150,9 +160,7 @@ impl Primary {
         requires { self.now.state ≡ Off }
         ensures { (answer (did self.now) result ≡ step_of 0 (model self.now) (submission message.now)) × (is_err result ≡ true) }
     {
-        if let Err(refusal) = check_message(message) {
-            return Err(refusal);
-        }
+        check_message(message)?;
         Err(Refusal::NotConnected)
     }
 
@@ -162,9 +170,7 @@ impl Primary {
         ensures value { answer (did self.new) result ≡ step_of 0 (model self.old) (submission message.now) }
         ensures unchanged { OnErr result (self.new ≡ self.old) }
     {
-        if let Err(refusal) = self.buffers.admit(message) {
-            return Err(refusal);
-        }
+        self.buffers.admit(message)?;
         self.buffers.put(message);
         self.state = State::Waiting;
         Ok(self.send_next())
@@ -176,11 +182,9 @@ impl Primary {
         ensures value { answer (did self.new) result ≡ step_of 0 (model self.old) (submission message.now) }
         ensures unchanged { OnErr result (self.new ≡ self.old) }
     {
-        if let Err(refusal) = self.buffers.admit(message) {
-            return Err(refusal);
-        }
+        self.buffers.admit(message)?;
         self.buffers.put(message);
-        Ok(Step::nothing())
+        Ok(Step::default())
     }
 
     // What the station does at an event, with the attempt limit as it is now: the action table. Only a submission can be
@@ -195,10 +199,10 @@ impl Primary {
             (State::Off, Event::Ack(number, credit)) => Ok(self.connect_under(number, credit)),
             (State::Off, Event::Timeout) => Ok(self.ask()),
             (State::Ready, Event::Submission(message)) => self.send_first(message),
-            (State::Ready, Event::Reset | Event::Timeout) => Ok(Step::nothing()),
+            (State::Ready, Event::Reset | Event::Timeout) => Ok(Step::default()),
             (State::Ready, Event::Ack(_, credit)) => Ok(self.note(credit)),
             (State::Waiting | State::Asking, Event::Submission(message)) => self.queue(message),
-            (State::Waiting, Event::Reset) => Ok(Step::nothing()),
+            (State::Waiting, Event::Reset) => Ok(Step::default()),
             (State::Waiting, Event::Ack(number, credit)) => Ok(self.acknowledge(number, credit)),
             (State::Asking, Event::Reset) => Ok(self.send_again()),
             (State::Asking, Event::Ack(number, credit)) => Ok(self.answer(number, credit)),
@@ -212,9 +216,7 @@ impl Primary {
         ensures after { model self.new ≡ collected (model self.old) }
         ensures unchanged { OnErr result (self.new ≡ self.old) }
     {
-        let Some(outcome) = self.buffers.oldest_outcome() else {
-            return Err(Refusal::NoOutcome);
-        };
+        let outcome = self.buffers.oldest_outcome().ok_or(Refusal::NoOutcome)?;
         self.buffers.free_oldest();
         Ok(outcome)
     }

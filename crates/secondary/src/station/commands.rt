@@ -6,7 +6,7 @@ ghost use Rattle.secondary.specs.Station.{model, opened, free_buffers, enq_answe
 
 use super::Secondary;
 use crate::deliveries::Deliveries;
-use crate::reply::{Reply, Response};
+use crate::reply::Answer;
 use packet::number::Number;
 use packet::refusal::Refusal;
 
@@ -24,7 +24,7 @@ impl Secondary {
     {
         Secondary {
             line,
-            last: Reply::Reset,
+            last: None,
             deliveries: Deliveries::new(),
             out: false,
         }
@@ -37,17 +37,17 @@ impl Secondary {
     }
 
     // ENQ: the last answer again, with the credit of now; no answer while no buffer is free.
-    pub fn enq(&self, receive_limit: u8) -> Response
+    pub fn enq(&self, receive_limit: u8) -> Option<Answer>
         ensures { result ≡ enq_answer receive_limit (model self.now) }
     {
         let free = self.free_buffers(receive_limit);
         if free == 0 {
-            return Response::Nothing;
+            return None;
         }
-        match self.last {
-            Reply::Reset => Response::Reset,
-            Reply::Ack(number) => Response::Ack(number, free),
-        }
+        Some(match self.last {
+            None => Answer::Reset,
+            Some(number) => Answer::Ack(number, free),
+        })
     }
 
     // DATA: stores the message and acknowledges it; ignored while no buffer is free.
@@ -56,20 +56,20 @@ impl Secondary {
         number: Number,
         message: &[u8],
         receive_limit: u8,
-    ) -> Result<Response, Refusal>
+    ) -> Result<Option<Answer>, Refusal>
         ensures value { answer (λ x. x) result ≡ data_answer receive_limit number message.now (model self.old) }
         ensures after { model self.new ≡ after_data receive_limit number message.now (model self.old) }
         ensures unchanged { OnErr result (self.new ≡ self.old) }
     {
-        if message.len() < 1 || 96 < message.len() {
+        if !(1..=96).contains(&message.len()) {
             return Err(Refusal::MessageLength);
         }
         let free = self.free_buffers(receive_limit);
         if free == 0 {
-            return Ok(Response::Nothing);
+            return Ok(None);
         }
         self.deliveries.store(message);
-        self.last = Reply::Ack(number);
-        Ok(Response::Ack(number, free - 1))
+        self.last = Some(number);
+        Ok(Some(Answer::Ack(number, free - 1)))
     }
 }

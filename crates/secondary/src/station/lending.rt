@@ -32,9 +32,7 @@ impl Secondary {
         ensures unchanged { OnErr result (self.new ≡ self.old) }
         ensures out { IfOk result (λ x. StaysOut x.1.line x.1.buffer (model self.new)) }
     {
-        if let Err(refusal) = self.may_take(place.len()) {
-            return Err(refusal);
-        }
+        self.may_take(place.len())?;
         let length = self.deliveries.copy_oldest(place);
         self.out = true;
         let slip = DeliverySlip {
@@ -48,10 +46,8 @@ impl Secondary {
     fn is_out(&self, slip: &DeliverySlip) -> bool
         ensures { result ≡ slip_out slip.now.line slip.now.buffer (model self.now) }
     {
-        match self.buffer_out() {
-            Some(buffer) => slip.line == self.line && slip.buffer == buffer,
-            None => false,
-        }
+        self.buffer_out()
+            .is_some_and(|buffer| slip.line == self.line && slip.buffer == buffer)
     }
 
     // Frees the buffer of the slip, or hands a wrong slip back.

@@ -3,10 +3,11 @@ ghost use Rattle.std.specs.Prelude.{◌≡◌, length};
 ghost use Rattle.secondary.specs.Station.{model, buffer_out};
 
 use super::Secondary;
-use crate::reply::Reply;
+use packet::number::Number;
 
 impl Secondary {
-    pub fn last_answer(&self) -> Reply
+    // The number of the last ACK, none while the last answer is RESET.
+    pub fn last_answer(&self) -> Option<Number>
         ensures { result ≡ (model self.now).last }
     {
         self.last
@@ -23,10 +24,6 @@ impl Secondary {
     pub fn buffer_out(&self) -> Option<u8>
         ensures { result ≡ buffer_out (model self.now) }
     {
-        if self.out {
-            Some(self.deliveries.oldest())
-        } else {
-            None
-        }
+        self.out.then_some(self.deliveries.oldest())
     }
 }

@@ -26,22 +26,18 @@ impl<K: Check + Drop> End<K> {
     ) -> Result<(End<K>, Report), Refusal>
         ensures value { answer (λ x. told x.1) result ≡ seen (telling K.Check.meaning) (opening_of line frame.now) }
         ensures made { answer (λ x. model x.0) result ≡ seen (λ d. d.next) (opening_of line frame.now) }
-        ensures in_order { IfOk result (λ x. LeaveInOrder K.Check.size K.Check.meaning (model x.0)) }
+        ensures in_order { IfOk result (λ x. LeaveInOrder K.Check.LEN K.Check.meaning (model x.0)) }
         ensures placed { place.new ≡ placed_by K.Check.meaning (opening_of line frame.now) place.old }
     {
-        match parse(frame) {
-            Ok(settings) => {
-                let end = End {
-                    kind,
-                    settings,
-                    primary: Primary::open(),
-                    secondary: Secondary::new(line),
-                };
-                let report = end.command(Step::enq(), place);
-                Ok((end, report))
-            }
-            Err(refusal) => Err(refusal),
-        }
+        let settings = parse(frame)?;
+        let end = End {
+            kind,
+            settings,
+            primary: Primary::open(),
+            secondary: Secondary::new(line),
+        };
+        let report = end.command(Step::enq(), place);
+        Ok((end, report))
     }
 }
 
@@ -50,10 +46,7 @@ impl<K: Check> End<K> {
     fn awaiting(&self) -> bool
         ensures { result ≡ awaiting (model self.now).primary.phase }
     {
-        match self.primary.status().state {
-            State::Waiting | State::Asking => true,
-            State::Off | State::Ready => false,
-        }
+        matches!(self.primary.status().state, State::Waiting | State::Asking)
     }
 
     // All four settings change together, or none does: refused with 8 to 15.

@@ -15,7 +15,7 @@ returns-then-self-eq-CAPACITY c =
     let o = t.order in
     let n = length (unsettled t) + length (uncollected t) in
     let full : leb 8 n ≡ true = le-leb 8 n (omega arith) in
-    let front = passed (message_rules m) tt _ c.in_default.ensures in
+    let front = passed (message_rules m) tt _ c.in_ok-check_message.ensures in
     record { value = sym (past (message_rules m) (room_rules n) tt front.0 ∙ stopped (leb 8 n) 19 [] tt full); fits = tt }
 
 pub returns : goal.returns
@@ -28,5 +28,5 @@ returns c =
     let r = t.room in
     let n = length (unsettled t) + length (uncollected t) in
     let free : leb 8 n ≡ false = lt-leb 8 n (omega arith) in
-    let front = passed (message_rules m) tt _ c.in_default.ensures in
+    let front = passed (message_rules m) tt _ c.in_ok-check_message.ensures in
     record { value = sym (past (message_rules m) (room_rules n) tt front.0 ∙ all_past (room_rules n) tt (free, tt)); fits = search rules }

@@ -1,4 +1,4 @@
-use Rattle.std.proofs.Common.{◌≡◌, ◌<◌, List, length, drop, ap, ◌∙◌, arith}
+use Rattle.std.proofs.Common.{◌≡◌, ◌<◌, List, length, drop, ap, ◌∙◌, arith, rules}
 use Rattle.primary.specs.Buffers.{unsettled}
 use Rattle.primary.specs.Model.{model}
 use Rattle.primary.specs.Station.{Message}
@@ -11,7 +11,7 @@ returns-then-unsettled-eq0 c =
     let w = drop 1 (unsettled s.buffers) in
     let count = c.unsettled.ensures.value ∙ ap (λ (ms : List Message). length ms) c.settle.ensures.waits in
     let none : length w ≡ 0 = omega (arith, count, c.if-unsettled-eq0.true) in
-    arrive_last (model s) w _ c.nothing.result none c.settle.ensures.told c.nothing.ensures
+    arrive_last (model s) w _ c.default.result none c.settle.ensures.told (search rules)
 
 pub returns : goal.returns
 returns c =

@@ -1,32 +1,18 @@
 use Rattle.std.proofs.Common.{ℕ, length, sym, refl, ap, ◌∙◌}
 use Rattle.packet.specs.Refusals.{gave}
 use Rattle.packet.proofs.Judging.{all_past, passed}
-use Rattle.secondary.specs.Station.{model, take_rules, lent, copied, oldest_buffer}
+use Rattle.secondary.specs.Station.{model, take_rules, lent, copied}
 use Rattle.secondary.specs.Buffers.{oldest_of}
 use Rattle.secondary.proofs.Outs.{stays_out}
-use Rattle.secondary.proofs.Turns.{changed, refuses, unchanged, oldest_is, held_fits}
+use Rattle.secondary.proofs.Turns.{changed, oldest_is, held_fits}
 use Rattle.secondary.proofs.station.Secondary.take.Goals as goal
-
-pub returns-in-Err : goal.returns-in-Err
-returns-in-Err c =
-    let s = model c.args.self.now in
-    let place = c.args.place.now in
-    let rules = take_rules (length place) s in
-    let says = c.in-Err.ensures in
-    record {
-      value = sym (refuses rules tt (length (oldest_of s.held), s.line, oldest_buffer s) _ says);
-      after = sym (unchanged rules s (lent s) tt _ says);
-      copied = sym (unchanged rules place (copied (oldest_of s.held) place) tt _ says);
-      unchanged = refl;
-      out = tt;
-    }
 
 pub returns : goal.returns
 returns c =
     let s = model c.args.self.now in
     let place = c.args.place.now in
     let rules = take_rules (length place) s in
-    let pass = (passed rules _ _ c.in_default.ensures).0 in
+    let pass = (passed rules _ _ c.in_ok-may_take.ensures).0 in
     let buffer = c.oldest.ensures ∙ sym (oldest_is c.args.self.now) in
     record {
       value =

@@ -9,5 +9,5 @@ returns g c =
       after = search rules;
       placed = search rules;
       unchanged = search rules;
-      in_time = in_time g.K.Check.size g.K.Check.meaning _ c.hear.new.self.limited;
+      in_time = in_time g.K.Check.LEN g.K.Check.meaning _ c.hear.new.self.limited;
     }

@@ -24,6 +24,6 @@ returns g c =
       out =
           widened
           (λ x. deliveries.StaysOut x.1.line x.1.buffer (secondary.model c.take.new.self))
-          (λ x. StaysOut g.K.Check.size g.K.Check.meaning x.1.line x.1.buffer e)
-          c.take.result (λ x. stays_out g.K.Check.size g.K.Check.meaning x.1.line x.1.buffer e) c.take.ensures.out;
+          (λ x. StaysOut g.K.Check.LEN g.K.Check.meaning x.1.line x.1.buffer e)
+          c.take.result (λ x. stays_out g.K.Check.LEN g.K.Check.meaning x.1.line x.1.buffer e) c.take.ensures.out;
     }
