@@ -1,6 +1,6 @@
 -- Places of the ring of send buffers as lists. Assumes nothing.
-use Rattle.std.proofs.Common.{◌≡◌, ℕ, zero, suc, ◌+◌, ◌-◌, ◌%◌, ◌<◌, ◌≤◌, ◌≢◌, List, [], ◌∷◌, ◌++◌, length, get_or, take, drop, set, replicate, Some, sym, refl, ap, ◌∙◌, add-zero, arith, get_or-set_other, get_or-set_same}
-use Rattle.std.proofs.lemmas.List.{take_at, append_assoc, append-nil}
+use Rattle.std.proofs.Common.{◌≡◌, ℕ, zero, suc, ◌+◌, ◌-◌, ◌%◌, ◌<◌, ◌≤◌, ◌≢◌, List, [], ◌∷◌, ◌++◌, length, get_or, drop, set, replicate, Some, sym, refl, ap, ◌∙◌, add-zero, arith, get_or-set_other, get_or-set_same}
+use Rattle.std.proofs.lemmas.List.{append_assoc, append-nil}
 use Rattle.primary.specs.declared.buffers.SendBuffer.{SendBuffer}
 use Rattle.primary.specs.Buffers.{run, blank, first}
 
@@ -91,9 +91,6 @@ module _ {X : Type 0} (F : SendBuffer → X) (bs : List SendBuffer) (h : ℕ) (a
       ap (run (seen bs) 0) s
       ∙ ap (λ (ys : List X). seen bs 0 ∷ ys) (sym (turn 0 (d - 1)))
       ∙ ap (λ (j : ℕ). F (get_or bs j blank) ∷ run turned 0 (d - 1)) z
-
-pub filled : (w rest m : List ℕ) → w ≡ m → take (length m) (w ++ rest) ≡ m
-filled w rest m e = take_at w rest (length m) (ap length e) ∙ e
 
 -- the rest of the messages p get the outcome x, one by one
 module _ {X Y : Type 0} (x : X) where

@@ -1,13 +1,14 @@
 -- The two lists that the ring of send buffers stands for, oldest first. Assumes nothing.
-use Rattle.std.specs.Prelude.{◌≡◌, ℕ, zero, suc, ◌+◌, ◌-◌, ◌%◌, List, [], ◌∷◌, ◌++◌, take, replicate, Some, None, Option, slice_index_or}
+use Rattle.std.specs.Prelude.{◌≡◌, ℕ, zero, suc, ◌+◌, ◌-◌, ◌%◌, List, [], ◌∷◌, ◌++◌, replicate, Some, None, Option, slice_index_or}
 use Rattle.std.proofs.Common.{lit≤}
+use Rattle.buffer.specs.Buffers.{contents}
 use Rattle.primary.specs.declared.outcome.Outcome.{Outcome}
 use Rattle.primary.specs.declared.outcome.Outcome.TheVariants.{Arrived}
 use Rattle.primary.specs.declared.buffers.SendBuffer.{SendBuffer}
 use Rattle.primary.specs.declared.buffers.SendBuffers.{SendBuffers}
 
 abbrev pub message_in : SendBuffer → List ℕ
-message_in b = take b.len b.text
+message_in b = contents b.message
 
 -- f of each of n places, from k on
 abbrev pub run : {X : Type 0} → (ℕ → X) → ℕ → ℕ → List X
@@ -15,7 +16,7 @@ run f k zero = []
 run f k (suc n) = f k ∷ run f (suc k) n
 
 abbrev pub blank : SendBuffer
-blank = record { text = replicate 96 0; len = 0; outcome = Arrived; fits = lit≤ tt }
+blank = record { message = record { memory = replicate 96 0; len = 0; fits = lit≤ tt }; outcome = Arrived }
 
 -- the buffer at the k-th place from the head
 abbrev pub slot : SendBuffers → ℕ → SendBuffer

@@ -1,5 +1,5 @@
 -- What the code's station, event and step stand for. Assumes nothing.
-use Rattle.std.specs.Prelude.{List, [], drop, Some, None, Option, slice_index_or}
+use Rattle.std.specs.Prelude.{◌<◌, List, [], drop, Some, None, Option, slice_index_or}
 use Rattle.std.specs.Option.{option_map}
 use Rattle.primary.specs.declared.event.Event.{Event}
 use Rattle.primary.specs.declared.event.Event.TheVariants as event
@@ -28,6 +28,10 @@ state_of (asking m ms) = Asking
 
 abbrev pub model : Primary → Station
 model p = record { phase = phase_of p.state (unsettled p.buffers); number = is_one p.number; attempts = p.attempts; credit = p.credit; outcomes = uncollected p.buffers }
+
+-- a message is without outcome, so the station has a current one
+abbrev pub HasCurrent : Primary → Type 0
+HasCurrent p = p.buffers.done < p.buffers.used
 
 abbrev pub heard : Event → Heard
 heard (event.Submission m) = submission m.now

@@ -2,16 +2,15 @@
 ghost use Rattle.std.specs.Prelude.{◌<◌, ◌≤◌};
 
 use crate::outcome::Outcome;
+use buffer::Buffer;
 
 pub mod ring;
 
 // A message, and what became of it once that is known.
 #[derive(Clone, Copy)]
 pub struct SendBuffer {
-    text: [u8; 96],
-    len: usize,
+    message: Buffer<96>,
     outcome: Outcome,
-    ghost fits: { len ≤ 96 },
 }
 
 // Eight buffers in a ring: from `head` on `done` whose outcome is not collected, then up to `used` those without outcome.

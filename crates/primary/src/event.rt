@@ -8,7 +8,7 @@ use packet::number::Number;
 use std::fmt;
 
 // A message to send, an answer heard (ACK with its number and credit), or no answer in time.
-#[derive(Clone, Copy, PartialEq, Eq)]
+#[derive(Clone, Copy, Debug, PartialEq, Eq)]
 pub enum Event<'a> {
     Submission(&'a [u8]),
     Reset,
@@ -35,14 +35,14 @@ impl fmt::Display for Timer {
 }
 
 // A command sent; DATA carries the station's current message.
-#[derive(Clone, Copy, PartialEq, Eq)]
+#[derive(Clone, Copy, Debug, PartialEq, Eq)]
 pub enum Command {
     Enq,
     Data(Number),
 }
 
 // The command sent, the timer set with it, and how many messages got each outcome.
-#[derive(Clone, Copy, Default, PartialEq, Eq)]
+#[derive(Clone, Copy, Debug, Default, PartialEq, Eq)]
 pub struct Step {
     pub sent: Option<Command>,
     pub timer: Option<Timer>,

@@ -35,7 +35,7 @@ impl fmt::Display for State {
 
 // What a station tells of itself: its state, the number of its last DATA, its attempts, the credit last heard (9 if none
 // was), how many messages are without outcome and how many outcomes are not collected.
-#[derive(Clone, Copy, PartialEq, Eq)]
+#[derive(Clone, Copy, Debug, PartialEq, Eq)]
 pub struct Status {
     pub state: State,
     pub number: Number,

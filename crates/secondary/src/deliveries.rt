@@ -1,17 +1,12 @@
 // The receive buffers, as data.
 ghost use Rattle.std.specs.Prelude.{◌<◌, ◌≤◌};
 
-#[derive(Clone, Copy)]
-pub struct Delivery {
-    text: [u8; 96],
-    len: usize,
-    ghost fits: { len ≤ 96 },
-}
+use buffer::Buffer;
 
 // Eight buffers in turn: `held` deliveries from `oldest` on.
 #[derive(Clone, Copy)]
 pub struct Deliveries {
-    buffers: [Delivery; 8],
+    buffers: [Buffer<96>; 8],
     oldest: usize,
     held: usize,
     ghost place: { oldest < 8 },

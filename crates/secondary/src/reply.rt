@@ -2,7 +2,7 @@
 use packet::number::Number;
 
 // RESET until a message is stored, then an ACK of the last one stored, with the credit.
-#[derive(Clone, Copy, PartialEq, Eq)]
+#[derive(Clone, Copy, Debug, PartialEq, Eq)]
 pub enum Answer {
     Reset,
     Ack(Number, u8),

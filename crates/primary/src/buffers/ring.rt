@@ -1,40 +1,32 @@
 // The send buffers' methods, by the two lists that the ring stands for.
 ghost use Rattle.std.specs.Prelude.{◌≡◌, ℕ, ◌+◌, ◌-◌, ◌<◌, ◌≤◌, List, [], ◌∷◌, ◌++◌, length, drop, replicate, OnOk, OnSome};
 ghost use Rattle.std.specs.Option.{option_map};
+ghost use Rattle.buffer.specs.Buffers.{contents};
 ghost use Rattle.packet.specs.Refusals.{answer, judged};
-ghost use Rattle.primary.specs.Buffers.{message_in, unsettled, uncollected, first, Accepted};
+ghost use Rattle.primary.specs.Buffers.{unsettled, uncollected, first, Accepted};
 ghost use Rattle.primary.specs.declared.outcome.Outcome.TheVariants.{NoConnection};
 ghost use Rattle.primary.specs.Rules.{message_rules, room_rules};
 
 use crate::buffers::{SendBuffer, SendBuffers};
 use crate::outcome::Outcome;
+use buffer::Buffer;
 use packet::letter::all_between;
 use packet::refusal::Refusal;
 
 const CAPACITY: usize = 8;
 
-impl SendBuffer {
-    fn fill(&mut self, message: &[u8])
-        requires { length message.now ≤ 96 }
-        ensures { message_in self.new ≡ message.now }
-    {
-        let n = message.len();
-        self.text[0..n].copy_from_slice(message);
-        self.len = n;
-    }
-}
-
-// Refuses what no DATA can carry, with 16 or 17.
-pub(crate) fn check_message(message: &[u8]) -> Result<(), Refusal>
-    ensures { answer (λ u. u) result ≡ judged (message_rules message.now) tt }
+// A message that DATA can carry; what it cannot is refused with 16 or 17.
+pub(crate) fn sendable(message: &[u8]) -> Result<Buffer<96>, Refusal>
+    ensures { answer contents result ≡ judged (message_rules message.now) message.now }
 {
-    if !(1..=96).contains(&message.len()) {
+    if message.is_empty() {
         return Err(Refusal::MessageLength);
     }
+    let kept = Buffer::from_slice(message).ok_or(Refusal::MessageLength)?;
     if !all_between(0x20, 0x7e, message) {
         return Err(Refusal::MessageByte);
     }
-    Ok(())
+    Ok(kept)
 }
 
 impl SendBuffers {
@@ -42,8 +34,7 @@ impl SendBuffers {
         ensures { (unsettled result ≡ []) × ((uncollected result ≡ []) × ((result.done ≡ 0) × (result.used ≡ 0))) }
     {
         let empty = SendBuffer {
-            text: [0; 96],
-            len: 0,
+            message: Buffer::new(),
             outcome: Outcome::NoConnection,
         };
         SendBuffers {
@@ -69,27 +60,24 @@ impl SendBuffers {
         self.done
     }
 
-    // Refuses a message that no DATA can carry or that no buffer is free for, with 16, 17 or 19.
-    pub(crate) fn admit(&self, message: &[u8]) -> Result<(), Refusal>
-        ensures value { answer (λ u. u) result ≡ judged (message_rules message.now ++ room_rules (length (unsettled self.now) + length (uncollected self.now))) tt }
-        ensures fits { OnOk result ((length message.now ≤ 96) × (self.now.used < 8)) }
+    // A message that DATA can carry and that a buffer is free for; others are refused with 16, 17 or 19.
+    pub(crate) fn admit(&self, message: &[u8]) -> Result<Buffer<96>, Refusal>
+        ensures value { answer contents result ≡ judged (message_rules message.now ++ room_rules (length (unsettled self.now) + length (uncollected self.now))) message.now }
+        ensures room { OnOk result (self.now.used < 8) }
     {
-        check_message(message)?;
+        let kept = sendable(message)?;
         if self.used == CAPACITY {
             return Err(Refusal::SendBuffersFull);
         }
-        Ok(())
+        Ok(kept)
     }
 
     // Takes a message into a free buffer.
-    pub(crate) fn put(&mut self, message: &[u8])
-        requires { (length message.now ≤ 96) × (self.old.used < 8) }
-        ensures { Accepted message.now self.old self.new }
+    pub(crate) fn put(&mut self, message: Buffer<96>)
+        requires { self.old.used < 8 }
+        ensures { Accepted (contents message) self.old self.new }
     {
-        let at = (self.head + self.used) % CAPACITY;
-        let mut buffer = self.buffers[at];
-        buffer.fill(message);
-        self.buffers[at] = buffer;
+        self.buffers[(self.head + self.used) % CAPACITY].message = message;
         self.used += 1;
     }
 
@@ -100,8 +88,11 @@ impl SendBuffers {
         if self.done == self.used {
             return None;
         }
-        let buffer = &self.buffers[(self.head + self.done) % CAPACITY];
-        Some(&buffer.text[0..buffer.len])
+        Some(
+            self.buffers[(self.head + self.done) % CAPACITY]
+                .message
+                .as_slice(),
+        )
     }
 
     // The oldest message without outcome gets one.

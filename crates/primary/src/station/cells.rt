@@ -1,15 +1,15 @@
 // The actions of the table's cells, and the step that chooses among them.
-ghost use Rattle.std.specs.Prelude.{◌≡◌, ◌<◌, true, [], drop, is_err, OnErr, slice_index_or};
+ghost use Rattle.std.specs.Prelude.{◌≡◌, true, [], drop, is_err, OnErr, slice_index_or};
 ghost use Rattle.packet.specs.Numbers.{is_one};
 ghost use Rattle.packet.specs.Refusals.{answer};
 ghost use Rattle.primary.specs.declared.station.State.TheVariants.{Off, Ready, Waiting, Asking};
 ghost use Rattle.primary.specs.Buffers.{unsettled};
-ghost use Rattle.primary.specs.Model.{model, did, heard};
+ghost use Rattle.primary.specs.Model.{model, did, heard, HasCurrent};
 ghost use Rattle.primary.specs.Rules.{oldest};
 ghost use Rattle.primary.specs.Station.{ready, submission, ack};
 ghost use Rattle.primary.specs.Table.{at, moved, credited, rests, asks, sends_again, sends_next, arrives, gives_up, expires, cell, step_of, collected};
 
-use crate::buffers::ring::check_message;
+use crate::buffers::ring::sendable;
 use crate::event::{Event, Step};
 use crate::outcome::{Outcome, Tally};
 use crate::station::{Primary, State};
@@ -23,6 +23,8 @@ const ARRIVAL: Tally = Tally {
     no_connection: 0,
 };
 
+// What a cell needs of state and buffers is a `requires`, and no type over `&mut Primary`: the cell ends it (giving up
+// leaves no current message), and a ghost field beside a `&mut` has to hold at the end of a call too.
 impl Primary {
     fn ask(&mut self) -> Step
         ensures { did self.new result ≡ asks (model self.old).phase (model self.old) }
@@ -70,7 +72,7 @@ impl Primary {
 
     // The current message is sent again, under its number.
     fn send_again(&mut self) -> Step
-        requires { self.old.buffers.done < self.old.buffers.used }
+        requires { HasCurrent self.old }
         ensures { did self.new result ≡ sends_again (slice_index_or (unsettled self.old.buffers) 0 []) (drop 1 (unsettled self.old.buffers)) (model self.old) }
     {
         self.state = State::Waiting;
@@ -80,7 +82,7 @@ impl Primary {
 
     // The current message has arrived.
     fn arrived(&mut self) -> Step
-        requires { self.old.buffers.done < self.old.buffers.used }
+        requires { HasCurrent self.old }
         ensures { did self.new result ≡ arrives (drop 1 (unsettled self.old.buffers)) (model self.old) }
     {
         self.buffers.settle(Outcome::Arrived);
@@ -125,7 +127,7 @@ impl Primary {
 
     // No answer came.
     fn expired(&mut self, limit: u8) -> Step
-        requires { self.old.buffers.done < self.old.buffers.used }
+        requires { HasCurrent self.old }
         ensures { did self.new result ≡ expires limit (slice_index_or (unsettled self.old.buffers) 0 []) (drop 1 (unsettled self.old.buffers)) (model self.old) }
     {
         if self.attempts < limit {
@@ -137,7 +139,7 @@ impl Primary {
 
     // The current message is given up, and no connection is left for those that wait.
     fn give_up(&mut self) -> Step
-        requires { self.old.buffers.done < self.old.buffers.used }
+        requires { HasCurrent self.old }
         ensures { did self.new result ≡ gives_up (drop 1 (unsettled self.old.buffers)) (model self.old) }
     {
         self.state = State::Off;
@@ -160,7 +162,7 @@ impl Primary {
         requires { self.now.state ≡ Off }
         ensures { (answer (did self.now) result ≡ step_of 0 (model self.now) (submission message.now)) × (is_err result ≡ true) }
     {
-        check_message(message)?;
+        sendable(message)?;
         Err(Refusal::NotConnected)
     }
 
@@ -170,20 +172,20 @@ impl Primary {
         ensures value { answer (did self.new) result ≡ step_of 0 (model self.old) (submission message.now) }
         ensures unchanged { OnErr result (self.new ≡ self.old) }
     {
-        self.buffers.admit(message)?;
-        self.buffers.put(message);
+        let kept = self.buffers.admit(message)?;
+        self.buffers.put(kept);
         self.state = State::Waiting;
         Ok(self.send_next())
     }
 
     // A message while another is under way: it waits.
     fn queue(&mut self, message: &[u8]) -> Result<Step, Refusal>
-        requires { self.old.buffers.done < self.old.buffers.used }
+        requires { HasCurrent self.old }
         ensures value { answer (did self.new) result ≡ step_of 0 (model self.old) (submission message.now) }
         ensures unchanged { OnErr result (self.new ≡ self.old) }
     {
-        self.buffers.admit(message)?;
-        self.buffers.put(message);
+        let kept = self.buffers.admit(message)?;
+        self.buffers.put(kept);
         Ok(Step::default())
     }
 

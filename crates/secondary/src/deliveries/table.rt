@@ -1,41 +1,17 @@
 // The receive buffers, by the list of messages that they stand for.
 ghost use Rattle.std.specs.Prelude.{◌≡◌, ◌+◌, ◌-◌, ◌%◌, ◌<◌, ◌≤◌, [], ◌∷◌, ◌++◌, length, drop};
-ghost use Rattle.secondary.specs.Buffers.{text_of, messages, oldest_of};
+ghost use Rattle.buffer.specs.Buffers.{contents};
+ghost use Rattle.secondary.specs.Buffers.{messages, oldest_of};
 
-use super::{Deliveries, Delivery};
-
-impl Delivery {
-    fn fill(&mut self, message: &[u8])
-        requires { length message.now ≤ 96 }
-        ensures { text_of self.new ≡ message.now }
-    {
-        let n = message.len();
-        self.text[0..n].copy_from_slice(message);
-        self.len = n;
-    }
-
-    // Copies the message to the front of `place`, and tells its length.
-    fn copy_to(&self, place: &mut [u8]) -> usize
-        requires { 96 ≤ length place.old }
-        ensures value { result ≡ length (text_of self.now) }
-        ensures copied { place.new ≡ text_of self.now ++ drop (length (text_of self.now)) place.old }
-    {
-        let n = self.len;
-        place[0..n].copy_from_slice(&self.text[0..n]);
-        n
-    }
-}
+use super::Deliveries;
+use buffer::Buffer;
 
 impl Deliveries {
     pub(crate) fn new() -> Deliveries
         ensures { (messages result ≡ []) × ((result.oldest ≡ 0) × (result.held ≡ 0)) }
     {
-        let empty = Delivery {
-            text: [0; 96],
-            len: 0,
-        };
         Deliveries {
-            buffers: [empty; 8],
+            buffers: [Buffer::new(); 8],
             oldest: 0,
             held: 0,
         }
@@ -55,16 +31,13 @@ impl Deliveries {
     }
 
     // Stores the message in the next buffer.
-    pub(crate) fn store(&mut self, message: &[u8])
-        requires { (length message.now ≤ 96) × (self.old.held < 8) }
-        ensures messages { messages self.new ≡ messages self.old ++ message.now ∷ [] }
+    pub(crate) fn store(&mut self, message: Buffer<96>)
+        requires { self.old.held < 8 }
+        ensures messages { messages self.new ≡ messages self.old ++ contents message ∷ [] }
         ensures oldest { self.new.oldest ≡ self.old.oldest }
         ensures held { self.new.held ≡ self.old.held + 1 }
     {
-        let at = (self.oldest + self.held) % 8;
-        let mut delivery = self.buffers[at];
-        delivery.fill(message);
-        self.buffers[at] = delivery;
+        self.buffers[(self.oldest + self.held) % 8] = message;
         self.held += 1;
     }
 
@@ -74,8 +47,7 @@ impl Deliveries {
         ensures value { result ≡ length (oldest_of (messages self.now)) }
         ensures copied { place.new ≡ oldest_of (messages self.now) ++ drop (length (oldest_of (messages self.now))) place.old }
     {
-        let delivery = self.buffers[self.oldest];
-        delivery.copy_to(place)
+        self.buffers[self.oldest].copy_to(place)
     }
 
     // Frees the oldest buffer.

@@ -1,14 +1,26 @@
 // The opening and the two commands.
 ghost use Rattle.std.specs.Prelude.{◌≡◌, OnErr};
-ghost use Rattle.packet.specs.Refusals.{answer};
+ghost use Rattle.buffer.specs.Buffers.{contents};
+ghost use Rattle.packet.specs.Refusals.{answer, judged};
 ghost use Rattle.secondary.specs.Laws.{LeaveInOrder};
-ghost use Rattle.secondary.specs.Station.{model, opened, free_buffers, enq_answer, data_answer, after_data};
+ghost use Rattle.secondary.specs.Station.{model, opened, free_buffers, enq_answer, message_rules, data_answer, after_data};
 
 use super::Secondary;
 use crate::deliveries::Deliveries;
 use crate::reply::Answer;
+use buffer::Buffer;
 use packet::number::Number;
 use packet::refusal::Refusal;
+
+// A message that a buffer takes: one of 1 to 96 bytes.
+fn storable(message: &[u8]) -> Result<Buffer<96>, Refusal>
+    ensures { answer contents result ≡ judged (message_rules message.now) message.now }
+{
+    if message.is_empty() {
+        return Err(Refusal::MessageLength);
+    }
+    Buffer::from_slice(message).ok_or(Refusal::MessageLength)
+}
 
 impl Secondary {
     // A station that holds nothing, on the line of this number.
@@ -61,9 +73,7 @@ impl Secondary {
         ensures after { model self.new ≡ after_data receive_limit number message.now (model self.old) }
         ensures unchanged { OnErr result (self.new ≡ self.old) }
     {
-        if !(1..=96).contains(&message.len()) {
-            return Err(Refusal::MessageLength);
-        }
+        let message = storable(message)?;
         let free = self.free_buffers(receive_limit);
         if free == 0 {
             return Ok(None);

@@ -1,5 +1,6 @@
-use Rattle.std.proofs.Common.{◌≡◌, ◌+◌, ◌-◌, true, false, leb, [], length, sym, ◌∙◌, arith, rules, le-leb}
+use Rattle.std.proofs.Common.{◌≡◌, ◌+◌, ◌-◌, true, false, leb, List, ℕ, [], length, sym, ap, ◌∙◌, arith, rules, le-leb}
 use borrow.Author.Tests.{lt-leb}
+use Rattle.packet.specs.Refusals.{gave}
 use Rattle.packet.proofs.Judging.{past, passed, stopped, all_past}
 use Rattle.primary.specs.Buffers.{message_in, slot, unsettled, uncollected}
 use Rattle.primary.specs.Rules.{message_rules, room_rules}
@@ -15,8 +16,8 @@ returns-then-self-eq-CAPACITY c =
     let o = t.order in
     let n = length (unsettled t) + length (uncollected t) in
     let full : leb 8 n ≡ true = le-leb 8 n (omega arith) in
-    let front = passed (message_rules m) tt _ c.in_ok-check_message.ensures in
-    record { value = sym (past (message_rules m) (room_rules n) tt front.0 ∙ stopped (leb 8 n) 19 [] tt full); fits = tt }
+    let front = passed (message_rules m) m _ c.in_ok-kept.ensures in
+    record { value = sym (past (message_rules m) (room_rules n) m front.0 ∙ stopped (leb 8 n) 19 [] m full); room = tt }
 
 pub returns : goal.returns
 returns c =
@@ -28,5 +29,8 @@ returns c =
     let r = t.room in
     let n = length (unsettled t) + length (uncollected t) in
     let free : leb 8 n ≡ false = lt-leb 8 n (omega arith) in
-    let front = passed (message_rules m) tt _ c.in_ok-check_message.ensures in
-    record { value = sym (past (message_rules m) (room_rules n) tt front.0 ∙ all_past (room_rules n) tt (free, tt)); fits = search rules }
+    let front = passed (message_rules m) m _ c.in_ok-kept.ensures in
+    record {
+      value = ap (λ (x : List ℕ). gave x) (sym front.1) ∙ sym (past (message_rules m) (room_rules n) m front.0 ∙ all_past (room_rules n) m (free, tt));
+      room = search rules;
+    }

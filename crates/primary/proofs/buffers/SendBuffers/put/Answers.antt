@@ -10,7 +10,7 @@ returns c =
     let free : t.used < 8 = search rules in
     let order = t.order in
     record {
-      waits = one_more message_in t.buffers t.head t.place long t.used t.done (t.used - t.done) _ _ _ (omega arith) (omega arith) free c.fill.ensures;
+      waits = one_more message_in t.buffers t.head t.place long t.used t.done (t.used - t.done) _ _ _ (omega arith) (omega arith) free refl;
       told = before_kept (λ b. b.outcome) t.buffers t.head t.place long t.used _ 0 t.done (omega arith) free;
       done = refl;
       used = refl;

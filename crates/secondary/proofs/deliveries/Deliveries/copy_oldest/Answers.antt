@@ -1,6 +1,9 @@
-use Rattle.std.proofs.Common.{◌≡◌, ℕ, ◌<◌, List, ◌++◌, length, drop, ap, ◌∙◌, arith, rules}
+use Rattle.std.proofs.Common.{◌≡◌, ◌<◌, length, get_or, ap, ◌∙◌, arith, rules}
 use Rattle.std.proofs.lemmas.List.{get_or_default}
-use Rattle.secondary.specs.Buffers.{text_of, blank}
+use Rattle.buffer.specs.Buffers.{contents}
+use Rattle.buffer.specs.declared.Buffer.{Buffer}
+use Rattle.buffer.proofs.Bounds.{length_contents, copied_whole}
+use Rattle.secondary.specs.Buffers.{blank}
 use Rattle.secondary.proofs.Rings.{first}
 use Rattle.secondary.proofs.deliveries.Deliveries.copy_oldest.Goals as goal
 
@@ -10,8 +13,8 @@ returns c =
     let long : length t.buffers ≡ 8 = search rules in
     let at = t.place in
     let within : t.oldest < length t.buffers = omega arith in
-    let e = ap text_of (get_or_default t.buffers t.oldest c.index-self-self.result blank within) ∙ first t.buffers t.oldest at t.held c.requires.1 in
-    record {
-      value = c.copy_to.ensures.value ∙ ap length e;
-      copied = c.copy_to.ensures.copied ∙ ap (λ (m : List ℕ). m ++ drop (length m) c.args.place.now) e;
-    }
+    let b = get_or t.buffers t.oldest c.index-self-self.result in
+    let oldest = ap (λ (x : Buffer 96). contents x) (get_or_default t.buffers t.oldest c.index-self-self.result blank within) ∙ first t.buffers t.oldest at t.held c.requires.1 in
+    let fits = length_contents b in
+    let whole = copied_whole (contents b) c.args.place.now _ c.copy_to.result (omega arith) c.copy_to.ensures.value c.copy_to.ensures.copied in
+    record { value = whole.0 ∙ ap length oldest; copied = cc }

@@ -6,4 +6,4 @@ pub returns : goal.returns
 returns c =
     let t = c.args.self.now in
     let long : length t.buffers ≡ 8 = search rules in
-    record { messages = stored t.buffers t.oldest t.place t.held _ _ long c.requires.1 c.fill.ensures; oldest = refl; held = refl }
+    record { messages = stored t.buffers t.oldest t.place t.held _ _ long c.requires refl; oldest = refl; held = refl }
