@@ -13,9 +13,16 @@ abbrev pub refusal : ℕ → List ℕ
 refusal n = codes "refused " ++ (decimal n ++ end)
 
 -- `length=4 burst=024503C8`
+abbrev pub burst_text : List ℕ → List ℕ
+burst_text b = codes "length=" ++ (decimal (length b) ++ (codes " burst=" ++ hex b))
+
 abbrev pub burst_line : List ℕ → List ℕ
-burst_line b = codes "length=" ++ (decimal (length b) ++ (codes " burst=" ++ (hex b ++ end)))
+burst_line b = burst_text b ++ end
 
 -- a line that is not carried out
 abbrev pub wrong : Fault → List ℕ
 wrong f = codes "error: " ++ (text f ++ end)
+
+-- what is printed where the machine has no memory for a line
+abbrev pub out_of_memory : List ℕ
+out_of_memory = codes "error: out of memory" ++ end

@@ -1,2 +1,3 @@
+pub mod Holding
 pub mod Media
 pub mod Model

@@ -1,13 +1,15 @@
 // A medium of a workbench.
 ghost use Rattle.std.specs.Prelude.{◌≡◌, ◌≤◌, length, None};
 ghost use Rattle.std.specs.Option.{option_map, unwrap_or};
-ghost use Rattle.medium.specs.Bursts.{first, some_letter};
-ghost use Rattle.medium.specs.Letters.{command, answer};
+ghost use Rattle.medium.specs.Bursts.{first};
 ghost use Rattle.ring.specs.Ring.{memory};
+ghost use Rattle.named_media.specs.Holding.{holding};
 ghost use Rattle.named_media.specs.Media.{named_by, under_way, offer_answer, made_by, offered_to, taken_from, taken_to};
 ghost use Rattle.named_media.specs.Model.{model};
 
+use crate::holds::Holds;
 use medium::burst::Burst;
+use medium::class::Class;
 use medium::offer::Offer;
 use medium::queue::QueueMedium;
 use medium::{LONGEST, Medium};
@@ -74,6 +76,9 @@ impl<'a, 'p> NamedMedium<'a, 'p> {
         }
     }
 
+    // Each call is a match of three types of media: through one `&mut dyn Medium` nothing would be known of places, patterns
+    // and counts.
+
     // Offers a burst; none where no medium is made.
     pub fn offer(&mut self, burst: &[u8]) -> Option<Offer>
         ensures answer { result ≡ offer_answer burst.now (model self.old) }
@@ -112,14 +117,24 @@ impl<'a, 'p> NamedMedium<'a, 'p> {
     }
 
     // Whether commands and whether answers are under way.
-    pub fn holds(&self) -> Option<(bool, bool)>
-        ensures { result ≡ option_map (λ bs. (some_letter command bs, some_letter answer bs)) (under_way (model self.now)) }
+    pub fn holds(&self) -> Option<Holds>
+        ensures { result ≡ option_map holding (under_way (model self.now)) }
     {
         Some(match self.made? {
-            MediumKind::Queue => (self.queue.holds_commands(), self.queue.holds_answers()),
-            MediumKind::Packed => (self.packed.holds_commands(), self.packed.holds_answers()),
-            MediumKind::Noisy => (self.noisy.holds_commands(), self.noisy.holds_answers()),
+            MediumKind::Queue => holds_of(&self.queue),
+            MediumKind::Packed => holds_of(&self.packed),
+            MediumKind::Noisy => holds_of(&self.noisy),
         })
+    }
+}
+
+// Whether commands and whether answers are under way in a medium of any kind.
+fn holds_of<M: Medium>(medium: &M) -> Holds
+    ensures { result ≡ holding (M.bursts medium.now) }
+{
+    Holds {
+        commands: medium.holds(Class::Command),
+        answers: medium.holds(Class::Answer),
     }
 }
 
