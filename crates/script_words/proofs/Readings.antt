@@ -1,5 +1,5 @@
 -- The arguments of a line. Assumes nothing.
-use Rattle.std.proofs.Common.{◌≡◌, ℕ, List, Some, None, Ok, Option, Result, sym, refl, ap, ◌∙◌}
+use Rattle.std.proofs.Common.{◌≡◌, ℕ, List, Some, None, Ok, Option, Result, refl, ap, ◌∙◌}
 use Rattle.std.specs.Option.{option_map, ok_or}
 use Rattle.script_words.specs.Arguments.{◌then◌, due, argument}
 use Rattle.script_words.specs.Told.{told}

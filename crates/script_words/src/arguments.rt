@@ -3,7 +3,7 @@ ghost use Rattle.std.specs.Prelude.{◌≡◌};
 ghost use Rattle.std.specs.Option.{option_copied, option_map};
 ghost use Rattle.notation.specs.Hex.{unhex};
 ghost use Rattle.notation.specs.Words.{first_word, left};
-ghost use Rattle.script_words.specs.Arguments.{due, argument, kind, bytes, size_or, ended};
+ghost use Rattle.script_words.specs.Arguments.{asking, due, argument, kind, bytes, size_or, ended};
 ghost use Rattle.script_words.specs.Told.{told, bytes_of};
 ghost use Rattle.script_words.specs.declared.fault.Fault.TheVariants as fault;
 
@@ -32,6 +32,16 @@ fn in_hex(word: &[u8]) -> Option<Bytes<'_>>
 }
 
 impl<'a> Arguments<'a> {
+    // All of a line, unless it asks for nothing: a line of spaces alone, or a comment.
+    pub fn of(line: &'a [u8]) -> Option<Self>
+        ensures { option_map (λ words. words.rest.now) result ≡ asking line.now }
+    {
+        match line {
+            [b'#', ..] => None,
+            _ => (!trimmed(line).is_empty()).then_some(Arguments { rest: line }),
+        }
+    }
+
     // The next word, where one is left.
     pub fn take_word(&mut self) -> Option<&'a [u8]>
         ensures value { option_copied result ≡ first_word self.old.rest.now }
