@@ -1,7 +1,7 @@
 // Lines that are printed.
 ghost use Rattle.std.specs.Prelude.{◌≡◌, IfOk, Some, string_bytes};
 ghost use Rattle.packet.specs.Refusals.{number_of};
-ghost use Rattle.answers.specs.Lines.{refusal, burst_text, wrong, out_of_memory};
+ghost use Rattle.answers.specs.Lines.{refusal, burst_text, or_none, wrong, out_of_memory};
 
 use notation::hex::Hex;
 use packet::refusal::Refusal;
@@ -26,6 +26,21 @@ impl<'a> fmt::Display for PlacedBurst<'a> {
 
     fn fmt<W: fmt::Write>(&self, f: &mut fmt::Formatter<W>) -> fmt::Result {
         write!(f, "length={} burst={}", self.bytes.len(), Hex::of(self.bytes))
+    }
+}
+
+// A value to be printed, or `none`.
+#[derive(Clone, Copy)]
+pub struct OrNone<T>(pub Option<T>);
+
+impl<T: fmt::Display> fmt::Display for OrNone<T> {
+    ghost output = { λ value. or_none T.output value.0 };
+
+    fn fmt<W: fmt::Write>(&self, f: &mut fmt::Formatter<W>) -> fmt::Result {
+        match &self.0 {
+            Some(value) => value.fmt(f),
+            None => f.write_str("none"),
+        }
     }
 }
 
