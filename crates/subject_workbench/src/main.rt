@@ -5,11 +5,12 @@ ghost use Rattle.subject_bench.specs.Runs.{printed};
 ghost use Rattle.subject_bench.specs.Told.{bench_of};
 
 use end_bench::ends::Ends;
+use named_media::media::{Media, NamedMedium};
 use std::alloc::{AllocError, Global};
 use std::io;
 use std::io::{BufReader, BufWriter, Write};
 use subject_bench::run::{Workbench, run_line};
-use workbench_program::memory::media;
+use workbench_program::memory::{bursts, packed_medium};
 use workbench_program::script::{Bench, answer_lines};
 
 struct Subjects<'a, 'p>(Workbench<'a, 'p>);
@@ -26,7 +27,12 @@ fn main(rt: HostRuntime) -> io::Result<()> {
     let heap = rt.alloc();
     let mut input = BufReader::new(heap, rt.stdin())?;
     let mut output = BufWriter::new(heap, rt.stdout())?;
-    let media = media(heap)?;
+    let mut m_packed = packed_medium(heap)?;
+    let mut n_packed = packed_medium(heap)?;
+    let media = Media {
+        m: NamedMedium::over(bursts(heap)?, &mut m_packed, bursts(heap)?),
+        n: NamedMedium::over(bursts(heap)?, &mut n_packed, bursts(heap)?),
+    };
     let mut bench = Subjects(Workbench {
         ends: Ends::new(),
         media,

@@ -5,11 +5,11 @@ ghost use Rattle.bench.specs.Runs.{printed};
 ghost use Rattle.named_media.specs.Model.{models};
 
 use bench::run::run_line;
-use named_media::media::Media;
+use named_media::media::{Media, NamedMedium};
 use std::alloc::{AllocError, Global};
 use std::io;
 use std::io::{BufReader, BufWriter, Write};
-use workbench_program::memory::media;
+use workbench_program::memory::{bursts, packed_medium};
 use workbench_program::script::{Bench, answer_lines};
 
 #[derive(Drop)]
@@ -27,7 +27,12 @@ fn main(rt: HostRuntime) -> io::Result<()> {
     let heap = rt.alloc();
     let mut input = BufReader::new(heap, rt.stdin())?;
     let mut output = BufWriter::new(heap, rt.stdout())?;
-    let mut bench = Workbench(media(heap)?);
+    let mut m_packed = packed_medium(heap)?;
+    let mut n_packed = packed_medium(heap)?;
+    let mut bench = Workbench(Media {
+        m: NamedMedium::over(bursts(heap)?, &mut m_packed, bursts(heap)?),
+        n: NamedMedium::over(bursts(heap)?, &mut n_packed, bursts(heap)?),
+    });
     answer_lines(heap, &mut input, &mut output, &mut bench)?;
     output.flush()
 }

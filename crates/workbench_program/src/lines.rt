@@ -1,6 +1,6 @@
 // The lines of the input, of any length and any bytes.
-ghost use Rattle.std.specs.Prelude.{◌≡◌, None, Ok};
-ghost use Rattle.std.specs.Io.KnownBytes.{IsAtEnd};
+ghost use Rattle.std.specs.Prelude.{◌≡◌, None, Ok, OnOk};
+ghost use Rattle.workbench_program.specs.Ends.{StaysKnown, Ended};
 
 use notation::words::trimmed;
 use std::alloc::{AllocError, Global};
@@ -13,7 +13,8 @@ pub(crate) fn take_line<R: BufRead>(
     input: &mut R,
     line: &mut Vec<u8>,
 ) -> io::Result<Option<Result<(), AllocError>>>
-    ensures { result ≡ Ok None → IsAtEnd (R.Read.remaining input.new) }
+    ensures known { OnOk result (StaysKnown (R.Read.remaining input.old) (R.Read.remaining input.new)) }
+    ensures end { result ≡ Ok None → Ended (R.Read.remaining input.old) (R.Read.remaining input.new) }
 {
     line.clear();
     // The input's length bounds the turns, and no type knows it: each drops spaces in front of the first word, which say

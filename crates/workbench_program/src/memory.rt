@@ -1,41 +1,28 @@
 // Memory for the media, which serves as long as the program runs.
-ghost use Rattle.std.specs.Prelude.{◌≡◌, length, None, IfOk};
-ghost use Rattle.named_media.specs.Media.{named_by};
-ghost use Rattle.named_media.specs.Model.{model, models};
+// A program lends its packed media to the names: a function that made the media of both names here would answer a Result
+// that holds a `&mut` to a packed medium, which holds one itself, and gets no generated proof.
+ghost use Rattle.std.specs.Prelude.{◌≡◌, [], length, IfOk};
+ghost use Rattle.packing.specs.Packed.{carries};
+ghost use Rattle.ring.specs.Ring.{places};
 
 use medium::burst::Burst;
 use medium::queue::QUEUE_LIMIT;
-use named_media::media::{Media, NamedMedium};
 use packing::packed::PackedMedium;
 use packing::packed_medium::PACKED_LIMIT;
 use std::alloc::{AllocError, Global};
 
-fn bytes(heap: Global) -> Result<&'static mut [u8], AllocError>
-    ensures { IfOk result (λ s. length s.now ≡ 65536) }
+// A packed medium of the most places, with nothing under way.
+pub fn packed_medium(heap: Global) -> Result<PackedMedium<'static>, AllocError>
+    ensures bursts { IfOk result (λ p. carries p ≡ []) }
+    ensures places { IfOk result (λ p. places p.ring ≡ 65536) }
 {
-    Ok(vec![in heap; 0u8; PACKED_LIMIT]?.leak())
+    let bytes = vec![in heap; 0u8; PACKED_LIMIT]?;
+    Ok(PackedMedium::over(bytes.leak()))
 }
 
-fn bursts(heap: Global) -> Result<&'static mut [Burst], AllocError>
+// Places for a queue of the most bursts.
+pub fn bursts(heap: Global) -> Result<&'static mut [Burst], AllocError>
     ensures { IfOk result (λ s. length s.now ≡ 4096) }
 {
     Ok(vec![in heap; Burst::blank(); QUEUE_LIMIT]?.leak())
-}
-
-fn named_medium(heap: Global) -> Result<NamedMedium<'static, 'static>, AllocError>
-    ensures { IfOk result (λ n. model n ≡ named_by None 4096 65536 4096) }
-{
-    let queue = bursts(heap)?;
-    let packed = Box::new(heap, PackedMedium::over(bytes(heap)?))?;
-    let noisy = bursts(heap)?;
-    Ok(NamedMedium::over(queue, Box::leak(packed), noisy))
-}
-
-// The media of both names, none of which is made.
-pub fn media(heap: Global) -> Result<Media<'static, 'static>, AllocError>
-    ensures { IfOk result (λ w. models w ≡ (named_by None 4096 65536 4096, named_by None 4096 65536 4096)) }
-{
-    let m = named_medium(heap)?;
-    let n = named_medium(heap)?;
-    Ok(Media { m, n })
 }

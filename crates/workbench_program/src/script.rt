@@ -1,6 +1,6 @@
 // Answering a script.
 ghost use Rattle.std.specs.Prelude.{◌≡◌, ℕ, List, IfOk, OnOk, string_bytes};
-ghost use Rattle.std.specs.Io.KnownBytes.{IsAtEnd};
+ghost use Rattle.workbench_program.specs.Ends.{Ended};
 
 use crate::lines::take_line;
 use answers::print::out_of_memory;
@@ -37,7 +37,7 @@ pub fn answer_lines<R: BufRead, W: Write, B: Bench>(
     output: &mut W,
     bench: &mut B,
 ) -> io::Result<()>
-    ensures { OnOk result (IsAtEnd (R.Read.remaining input.new)) }
+    ensures { OnOk result (Ended (R.Read.remaining input.old) (R.Read.remaining input.new)) }
 {
     let mut line = Vec::new(heap);
     // Input has an end that no type knows, so the count is as good as none.
