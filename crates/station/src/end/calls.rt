@@ -108,6 +108,7 @@ impl<K: Check> End<K> {
     }
 
     // A message to send.
+    #[tactic(auto, using(crate::proofs::Waiting::in_time))]
     pub fn submit(&mut self, message: &[u8], place: &mut [u8; 104]) -> Result<Report, Refusal>
         ensures value { answer told result ≡ seen (telling K.Check.meaning) (submission (model self.old) message.now) }
         ensures after { model self.new ≡ left_by (submission (model self.old) message.now) (model self.old) }
@@ -119,6 +120,7 @@ impl<K: Check> End<K> {
     }
 
     // No answer came in time. This is never refused.
+    #[tactic(auto, using(crate::proofs::Waiting::in_time))]
     pub fn timeout(&mut self, place: &mut [u8; 104]) -> Report
         ensures value { gave (told result) ≡ seen (telling K.Check.meaning) (timeout (model self.old)) }
         ensures after { model self.new ≡ left_by (timeout (model self.old)) (model self.old) }
@@ -171,6 +173,7 @@ impl<K: Check> End<K> {
     }
 
     // A burst arrived: refused with 1 to 7, or heard.
+    #[tactic(auto, using(crate::proofs::Waiting::in_time))]
     pub fn arrive(&mut self, burst: &[u8], place: &mut [u8; 104]) -> Result<Report, Refusal>
         ensures value { answer told result ≡ seen (telling K.Check.meaning) (arrival K.Check.LEN K.Check.meaning (model self.old) burst.now) }
         ensures after { model self.new ≡ left_by (arrival K.Check.LEN K.Check.meaning (model self.old) burst.now) (model self.old) }

@@ -18,6 +18,7 @@ use settings::settings::parse;
 
 impl<K: Check + Drop> End<K> {
     // Opens an end on the line of this number: ENQ is sent. Refused with 8 to 13 by the settings frame.
+    #[tactic(auto, using(crate::proofs::Orders::in_order))]
     pub fn new(
         kind: K,
         line: u8,
