@@ -3,12 +3,10 @@ use Rattle.settings.specs.Frame.{InRange, frame_of}
 use Rattle.settings.proofs.Frames.{passed_range, passed_frame, taken}
 use Rattle.settings.proofs.settings.parse.Goals as goal
 
-pub returns : goal.returns
-returns c =
+pub returns-clause-ranges : goal.returns-clause-ranges
+returns-clause-ranges c = taken c.args.frame.now InRange (passed_range c.args.frame.now) _ c.take_apart.ensures
+
+pub returns-clause-determined : goal.returns-clause-determined
+returns-clause-determined c =
     let f = c.args.frame.now in
-    let is = c.take_apart.ensures in
-    record {
-      value = is;
-      ranges = taken f InRange (passed_range f) _ is;
-      determined = taken f (λ s. f ≡ frame_of s) (λ p. passed_frame f p (λ k. omega (arith, c.type_inv.frame k))) _ is;
-    }
+    taken f (λ s. f ≡ frame_of s) (λ p. passed_frame f p (λ k. omega (arith, c.type_inv.frame k))) _ c.take_apart.ensures
