@@ -1,3 +1,1 @@
-pub mod Written
-pub mod Exact
-pub mod Queued
+pub mod Lists

@@ -1,5 +1,6 @@
 -- Lists of bursts, each a list of bytes. Assumes nothing.
-use Rattle.std.specs.Prelude.{◌≡◌, ℕ, ◌<◌, ◌≤◌, Bool, false, ◌&&◌, ◌||◌, ◌≢◌, List, [], ◌∷◌, length, nat_le, nat_lt, slice_index, slice_index_or, slice_set}
+use Rattle.std.specs.Prelude.{◌≡◌, ℕ, ◌<◌, ◌≤◌, Bool, ◌&&◌, ◌≢◌, List, [], length, nat_le, nat_lt, slice_index, slice_index_or, slice_set}
+use Rattle.std.specs.List.{list_any}
 
 -- a medium carries bursts of 1 to 104 bytes
 abbrev pub Carried : List ℕ → Type 0
@@ -24,5 +25,4 @@ first bs = slice_index_or bs 0 []
 
 -- whether some burst's second byte is such a letter; 0, which stands for the second byte that a burst of one byte lacks, is none
 abbrev pub some_letter : (ℕ → Bool) → List (List ℕ) → Bool
-some_letter f [] = false
-some_letter f (b ∷ bs) = f (slice_index b 1) || some_letter f bs
+some_letter f bs = list_any (λ b. f (slice_index b 1)) bs

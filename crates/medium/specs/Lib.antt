@@ -4,3 +4,4 @@ pub mod Classes
 pub mod Offered
 pub mod Records
 pub mod Queue
+pub mod AllCarried

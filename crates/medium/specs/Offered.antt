@@ -1,5 +1,5 @@
 -- What an offer may do. Assumes nothing.
-use Rattle.std.specs.Prelude.{◌≡◌, ℕ, Bool, true, false, ◌⊎◌, List, [], ◌∷◌, ◌++◌}
+use Rattle.std.specs.Prelude.{◌≡◌, ℕ, Bool, true, false, ◌⊎◌, List, [], ◌∷◌, ◌++◌, codes}
 use Rattle.medium.specs.declared.offer.Offer.{Offer}
 use Rattle.medium.specs.declared.offer.Offer.TheVariants.{Whole, Spoilt}
 use Rattle.medium.specs.Bursts.{carried, Altered}
@@ -13,3 +13,8 @@ Offered before b Spoilt after = (after ≡ before) ⊎ ((carried b ≡ true) × 
 abbrev pub whole_if : Bool → Offer
 whole_if true = Whole
 whole_if false = Spoilt
+
+-- how an answer is printed
+abbrev pub name_of : Offer → List ℕ
+name_of Whole = codes "whole"
+name_of Spoilt = codes "spoilt"

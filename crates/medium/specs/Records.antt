@@ -1,7 +1,8 @@
 -- What a burst record means. Assumes nothing.
-use Rattle.std.specs.Prelude.{ℕ, List, take}
+use Rattle.std.specs.Prelude.{ℕ, List}
+use Rattle.buffer.specs.Buffers.{contents}
 use Rattle.medium.specs.declared.burst.Burst.{Burst}
 
 -- the bytes of the burst
 abbrev pub bytes_of : Burst → List ℕ
-bytes_of b = take b.len b.bytes
+bytes_of b = contents b.bytes

@@ -1,13 +1,24 @@
 // The two classes of operation letters.
 ghost use Rattle.std.specs.Prelude.{◌≡◌};
-ghost use Rattle.medium.specs.Classes.{letters};
+ghost use Rattle.medium.specs.Classes.{letters, class_of};
 
 use packet::letter::Letter;
 
-#[derive(Clone, Copy)]
+#[derive(Clone, Copy, Debug, PartialEq, Eq)]
 pub enum Class {
     Command,
     Answer,
+}
+
+impl From<Letter> for Class {
+    ghost from_gives = { λ letter class. class ≡ class_of letter };
+
+    fn from(letter: Letter) -> Class {
+        match letter {
+            Letter::Enq | Letter::Data(_) => Class::Command,
+            Letter::Ack(_) | Letter::Reset => Class::Answer,
+        }
+    }
 }
 
 impl Class {
@@ -15,10 +26,6 @@ impl Class {
     pub fn has(self, byte: u8) -> bool
         ensures { result ≡ letters self byte }
     {
-        match (self, Letter::from_byte(byte)) {
-            (Class::Command, Some(Letter::Enq | Letter::Data0 | Letter::Data1)) => true,
-            (Class::Answer, Some(Letter::Ack0 | Letter::Ack1 | Letter::Reset)) => true,
-            _ => false,
-        }
+        Letter::try_from(byte).is_ok_and(|letter| Class::from(letter) == self)
     }
 }

@@ -1,4 +1,5 @@
 // A medium that is lent is a medium.
+use crate::class::Class;
 use crate::offer::Offer;
 use crate::{LONGEST, Medium};
 
@@ -9,6 +10,8 @@ impl<M: Medium> Medium for &mut M {
 
     ghost takes = { λ m n. M.Medium.takes m.now n.now };
 
+    ghost all_carried = { λ m. M.Medium.all_carried m.now };
+
     fn offer(&mut self, burst: &[u8]) -> Offer {
         (**self).offer(burst)
     }
@@ -17,12 +20,8 @@ impl<M: Medium> Medium for &mut M {
         (**self).count()
     }
 
-    fn holds_commands(&self) -> bool {
-        (**self).holds_commands()
-    }
-
-    fn holds_answers(&self) -> bool {
-        (**self).holds_answers()
+    fn holds(&self, class: Class) -> bool {
+        (**self).holds(class)
     }
 
     fn take(&mut self, place: &mut [u8; LONGEST]) -> usize {

@@ -5,7 +5,7 @@ ghost use Rattle.std.specs.Prelude.{◌≡◌, ℕ, ◌≤◌, List, [], ◌++�
 ghost use Rattle.std.specs.List.{AllByRecursion};
 ghost use Rattle.medium.specs.declared.offer.Offer.{Offer as Answer};
 ghost use Rattle.medium.specs.Bursts.{Carried, first, some_letter};
-ghost use Rattle.medium.specs.Letters.{command, answer};
+ghost use Rattle.medium.specs.Classes.{letters};
 ghost use Rattle.medium.specs.Offered.{Offered};
 
 pub mod burst;
@@ -15,6 +15,7 @@ pub mod offer;
 pub mod queue;
 pub mod record;
 
+use class::Class;
 use offer::Offer;
 
 // The most bytes of a burst.
@@ -36,21 +37,16 @@ pub trait Medium {
         ensures meaning { Offered (bursts self.old) burst.now result (bursts self.new) }
         ensures exact { offers self.old burst.now result self.new };
 
-    // How many bursts are under way. Each has 1 to 104 bytes.
+    // How many bursts are under way.
     fn count(&self) -> usize
-        ensures value { result ≡ length (bursts self.now) }
-        ensures carried { AllByRecursion Carried (bursts self.now) };
+        ensures { result ≡ length (bursts self.now) };
 
-    // Whether a burst under way has a command letter.
-    fn holds_commands(&self) -> bool
-        ensures { result ≡ some_letter command (bursts self.now) };
-
-    // Whether a burst under way has an answer letter.
-    fn holds_answers(&self) -> bool
-        ensures { result ≡ some_letter answer (bursts self.now) };
+    // Whether a burst under way has a letter of the class.
+    fn holds(&self, class: Class) -> bool
+        ensures { result ≡ some_letter (letters class) (bursts self.now) };
 
     // Takes the first burst out, to the start of the place, and tells its length: 0 exactly
-    // where there is none.
+    // where there is none, a rule of the product that needs no Option, as no burst is empty.
     fn take(&mut self, place: &mut [u8; LONGEST]) -> usize
         ensures value { result ≡ length (first (bursts self.old)) }
         ensures bound { result ≤ 104 }
@@ -58,4 +54,7 @@ pub trait Medium {
         ensures place { place.new ≡ first (bursts self.old) ++ drop result place.old }
         ensures after { bursts self.new ≡ drop 1 (bursts self.old) }
         ensures exact { takes self.old self.new };
+
+    // Each burst under way has 1 to 104 bytes.
+    ghost all_carried: { (m : Self) → AllByRecursion Carried (bursts m) };
 }

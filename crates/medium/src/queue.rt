@@ -1,8 +1,7 @@
 // A medium that is a queue of up to 4,096 bursts.
-ghost use Rattle.std.specs.Prelude.{◌≡◌, min, [], length, drop};
-ghost use Rattle.medium.specs.Bursts.{some_letter};
-ghost use Rattle.medium.specs.Classes.{letters};
-ghost use Rattle.medium.specs.Queue.{queued, places, beyond, memory, TakesIn, Kept};
+ghost use Rattle.std.specs.Prelude.{◌≡◌, []};
+ghost use Rattle.medium.specs.AllCarried.{all_carried};
+ghost use Rattle.medium.specs.Queue.{queued, Over, Anew, TakesIn, Kept};
 
 use crate::burst::Burst;
 use crate::class::Class;
@@ -23,8 +22,7 @@ impl<'a> QueueMedium<'a> {
     // is never written.
     pub fn over(slots: &'a mut [Burst]) -> Self
         ensures bursts { queued result ≡ [] }
-        ensures places { places result ≡ min (length slots.old) 4096 }
-        ensures beyond { beyond result ≡ drop 4096 slots.old }
+        ensures ring { Over slots.old result }
     {
         QueueMedium {
             ring: Ring::over(slots, QUEUE_LIMIT),
@@ -34,24 +32,9 @@ impl<'a> QueueMedium<'a> {
     // Starts anew with nothing under way, in up to `limit` places of its memory.
     pub fn restart(&mut self, limit: usize)
         ensures bursts { queued self.new ≡ [] }
-        ensures places { places self.new ≡ min (length (memory self.old)) (min limit 4096) }
-        ensures memory { memory self.new ≡ memory self.old }
+        ensures ring { Anew self.old limit self.new }
     {
         self.ring.restart(limit.min(QUEUE_LIMIT));
-    }
-
-    // Whether a burst under way has a letter of the class.
-    fn holds(&self, class: Class) -> bool
-        ensures { result ≡ some_letter (letters class) (queued self.now) }
-    {
-        for k in 0..self.ring.count() {
-            if let Some(burst) = self.ring.look(k) {
-                if class.has(burst.letter()) {
-                    return true;
-                }
-            }
-        }
-        false
     }
 }
 
@@ -62,16 +45,16 @@ impl<'a> Medium for QueueMedium<'a> {
 
     ghost takes = { Kept };
 
+    ghost all_carried = { all_carried };
+
     fn offer(&mut self, burst: &[u8]) -> Offer {
-        match Burst::of(burst) {
-            None => Offer::Spoilt,
-            Some(record) => {
-                if self.ring.put(record) {
-                    Offer::Whole
-                } else {
-                    Offer::Spoilt
-                }
-            }
+        let Some(record) = Burst::of(burst) else {
+            return Offer::Spoilt;
+        };
+        if self.ring.put(record) {
+            Offer::Whole
+        } else {
+            Offer::Spoilt
         }
     }
 
@@ -79,18 +62,14 @@ impl<'a> Medium for QueueMedium<'a> {
         self.ring.count()
     }
 
-    fn holds_commands(&self) -> bool {
-        self.holds(Class::Command)
-    }
-
-    fn holds_answers(&self) -> bool {
-        self.holds(Class::Answer)
+    fn holds(&self, class: Class) -> bool {
+        self.ring.iter().any(|burst| class.has(burst.letter()))
     }
 
     fn take(&mut self, place: &mut [u8; LONGEST]) -> usize {
-        match self.ring.take() {
-            None => 0,
-            Some(burst) => burst.write(place),
-        }
+        let Some(burst) = self.ring.take() else {
+            return 0;
+        };
+        burst.write(place)
     }
 }

@@ -3,6 +3,7 @@ ghost use Rattle.std.specs.Prelude.{◌≡◌};
 ghost use Rattle.noise.specs.Lossy.{Passes};
 
 use crate::pattern::Pattern;
+use medium::class::Class;
 use medium::offer::Offer;
 use medium::record::is_carried;
 use medium::{LONGEST, Medium};
@@ -21,7 +22,7 @@ impl<M: Medium> LossyMedium<M> {
     {
         LossyMedium {
             medium,
-            pattern: Pattern { bits: pattern },
+            pattern: Pattern::from(pattern),
         }
     }
 
@@ -30,7 +31,7 @@ impl<M: Medium> LossyMedium<M> {
         ensures medium { self.new.medium ≡ self.old.medium }
         ensures pattern { self.new.pattern.bits ≡ pattern }
     {
-        self.pattern = Pattern { bits: pattern };
+        self.pattern = Pattern::from(pattern);
     }
 }
 
@@ -40,6 +41,8 @@ impl<M: Medium> Medium for LossyMedium<M> {
     ghost offers = { λ m b r n. Passes M.Medium.offers m.medium m.pattern.bits b r n.medium n.pattern.bits };
 
     ghost takes = { λ m n. M.Medium.takes m.medium n.medium × (n.pattern ≡ m.pattern) };
+
+    ghost all_carried = { λ m. M.Medium.all_carried m.medium };
 
     fn offer(&mut self, burst: &[u8]) -> Offer {
         if !is_carried(burst) || self.pattern.turn() {
@@ -52,12 +55,8 @@ impl<M: Medium> Medium for LossyMedium<M> {
         self.medium.count()
     }
 
-    fn holds_commands(&self) -> bool {
-        self.medium.holds_commands()
-    }
-
-    fn holds_answers(&self) -> bool {
-        self.medium.holds_answers()
+    fn holds(&self, class: Class) -> bool {
+        self.medium.holds(class)
     }
 
     fn take(&mut self, place: &mut [u8; LONGEST]) -> usize {

@@ -1,13 +1,16 @@
 // A queue that alters a byte of the bursts that its pattern hits.
-ghost use Rattle.std.specs.Prelude.{◌≡◌, min, [], length, drop};
-ghost use Rattle.medium.specs.Queue.{queued, places, beyond, memory};
+ghost use Rattle.std.specs.Prelude.{◌≡◌, []};
+ghost use Rattle.medium.specs.AllCarried.{all_carried};
+ghost use Rattle.medium.specs.Queue.{queued, Over, Anew};
 ghost use Rattle.noise.specs.Noisy.{Sends, Keeps};
 
 use crate::pattern::Pattern;
+use buffer::Buffer;
 use medium::burst::Burst;
+use medium::class::Class;
 use medium::offer::Offer;
 use medium::queue::QueueMedium;
-use medium::record::{is_carried, padded};
+use medium::record::is_carried;
 use medium::{LONGEST, Medium};
 
 #[derive(Drop)]
@@ -21,14 +24,13 @@ impl<'a> NoisyMedium<'a> {
     // A noisy medium with nothing under way, offered nothing yet.
     pub fn over(slots: &'a mut [Burst], pattern: u32) -> Self
         ensures bursts { queued result.queue ≡ [] }
-        ensures places { places result.queue ≡ min (length slots.old) 4096 }
-        ensures beyond { beyond result.queue ≡ drop 4096 slots.old }
+        ensures ring { Over slots.old result.queue }
         ensures pattern { result.pattern.bits ≡ pattern }
         ensures offers { result.offers ≡ 0 }
     {
         NoisyMedium {
             queue: QueueMedium::over(slots),
-            pattern: Pattern { bits: pattern },
+            pattern: Pattern::from(pattern),
             offers: 0,
         }
     }
@@ -36,13 +38,12 @@ impl<'a> NoisyMedium<'a> {
     // Starts anew with nothing under way and offered nothing yet, in up to `limit` places.
     pub fn restart(&mut self, limit: usize, pattern: u32)
         ensures bursts { queued self.new.queue ≡ [] }
-        ensures places { places self.new.queue ≡ min (length (memory self.old.queue)) (min limit 4096) }
-        ensures memory { memory self.new.queue ≡ memory self.old.queue }
+        ensures ring { Anew self.old.queue limit self.new.queue }
         ensures pattern { self.new.pattern.bits ≡ pattern }
         ensures offers { self.new.offers ≡ 0 }
     {
         self.queue.restart(limit);
-        self.pattern = Pattern { bits: pattern };
+        self.pattern = Pattern::from(pattern);
         self.offers = 0;
     }
 }
@@ -54,19 +55,20 @@ impl<'a> Medium for NoisyMedium<'a> {
 
     ghost takes = { Keeps };
 
+    ghost all_carried = { λ m. all_carried m.queue };
+
     fn offer(&mut self, burst: &[u8]) -> Offer {
         if !is_carried(burst) {
             return Offer::Spoilt;
         }
-        let len = burst.len();
-        let at = self.offers as usize % len;
+        let at = self.offers as usize % burst.len();
         self.offers = self.offers.wrapping_add(1);
         if !self.pattern.turn() {
             return self.queue.offer(burst);
         }
-        let mut altered = padded(burst);
-        altered[at] ^= 1;
-        let _ = self.queue.offer(&altered[0..len]);
+        let mut altered = Buffer::<LONGEST>::from_slice(burst).unwrap();
+        altered.flip(at);
+        let _ = self.queue.offer(altered.as_slice());
         Offer::Spoilt
     }
 
@@ -74,12 +76,8 @@ impl<'a> Medium for NoisyMedium<'a> {
         self.queue.count()
     }
 
-    fn holds_commands(&self) -> bool {
-        self.queue.holds_commands()
-    }
-
-    fn holds_answers(&self) -> bool {
-        self.queue.holds_answers()
+    fn holds(&self, class: Class) -> bool {
+        self.queue.holds(class)
     }
 
     fn take(&mut self, place: &mut [u8; LONGEST]) -> usize {

@@ -4,7 +4,15 @@ ghost use Rattle.noise.specs.Patterns.{low, turned};
 
 #[derive(Clone, Copy)]
 pub struct Pattern {
-    pub(crate) bits: u32,
+    bits: u32,
+}
+
+impl From<u32> for Pattern {
+    ghost from_gives = { λ bits pattern. pattern.bits ≡ bits };
+
+    fn from(bits: u32) -> Pattern {
+        Pattern { bits }
+    }
 }
 
 impl Pattern {

@@ -1,10 +1,11 @@
 -- Laws of bursts in a row of bytes.
-use Rattle.std.proofs.Common.{◌≡◌, ℕ, zero, suc, ◌+◌, ◌*◌, ◌/◌, ◌%◌, ◌<◌, ◌≤◌, Bool, true, false, cond, ◌&&◌, ltb, leb, ◌⊎◌, List, [], ◌∷◌, ◌++◌, length, take, drop, sym, refl, ap, ◌∙◌, subst, inl, inr, append_assoc, arith}
+use Rattle.std.proofs.Common.{◌≡◌, ℕ, zero, suc, ◌+◌, ◌*◌, ◌/◌, ◌%◌, ◌<◌, ◌≤◌, Bool, true, false, cond, ◌⊎◌, List, [], ◌∷◌, ◌++◌, length, take, drop, sym, refl, ap, ◌∙◌, subst, inl, inr, append_assoc, arith}
 use Rattle.std.specs.List.{AllByRecursion}
-use Rattle.std.proofs.lemmas.List.{length-append, take_at, drop_at, append-nil, length-take}
-use Rattle.std.proofs.lemmas.Bool.{lt-ltb, le-leb, ltb-true, leb-true, cond-true, and_from, and_parts, cases_Bool}
+use Rattle.std.proofs.lemmas.List.{length-append, take_at, drop_at, append-nil}
+use Rattle.std.proofs.lemmas.Bool.{lt-ltb, le-leb, cond-true, and_from}
 use Rattle.std.proofs.lemmas.Nat.{div-add-mod'}
 use Rattle.medium.specs.Bursts.{Carried}
+use Rattle.packing.specs.AllCarried.{unpacked_carried}
 use Rattle.packing.specs.Rowed.{framed, packed, readable, unpacked_at, unpacked, Packs}
 
 readable_is : (k n : ℕ) → 0 < k → k ≤ 104 → k ≤ n → readable k n ≡ true
@@ -29,30 +30,11 @@ length_packed : (bs : List (List ℕ)) → length bs ≤ length (packed bs)
 length_packed [] = omega arith
 length_packed (b ∷ bs) = omega (arith, length-append b (packed bs), length_packed bs)
 
+pub length_unpacked : (xs : List ℕ) → Packs xs → length (unpacked xs) ≤ length xs
+length_unpacked xs p = omega (arith, length_packed (unpacked xs), ap length p)
+
 pub unpacked_packed : (bs : List (List ℕ)) → AllByRecursion Carried bs → unpacked (packed bs) ≡ bs
 unpacked_packed bs a = unpacked_packed_at bs a (length (packed bs)) (length_packed bs)
-
--- only bursts of 1 to 104 bytes are read
-unpacked_carried_at : (n : ℕ) (xs : List ℕ) → AllByRecursion Carried (unpacked_at n xs)
-unpacked_carried_at zero xs = tt
-unpacked_carried_at (suc n) [] = tt
-unpacked_carried_at (suc n) (h ∷ []) = tt
-unpacked_carried_at (suc n) (h ∷ (l ∷ xs)) =
-    elim (cases_Bool (readable (h * 256 + l) (length xs))) [
-      | inl e ↦
-          let p = and_parts (ltb 0 (h * 256 + l)) (leb (h * 256 + l) 104 && leb (h * 256 + l) (length xs)) e in
-          let q = and_parts (leb (h * 256 + l) 104) (leb (h * 256 + l) (length xs)) p.1 in
-          let a = ltb-true 0 (h * 256 + l) p.0 in
-          let b = leb-true (h * 256 + l) 104 q.0 in
-          let c = leb-true (h * 256 + l) (length xs) q.1 in
-          let t = length-take (h * 256 + l) xs in
-          subst (λ (s : Bool). AllByRecursion Carried (cond s (take (h * 256 + l) xs ∷ unpacked_at n (drop (h * 256 + l) xs)) [])) (sym e)
-          ((omega arith, omega arith), unpacked_carried_at n (drop (h * 256 + l) xs))
-      | inr e ↦ subst (λ (s : Bool). AllByRecursion Carried (cond s (take (h * 256 + l) xs ∷ unpacked_at n (drop (h * 256 + l) xs)) [])) (sym e) tt
-    ]
-
-pub unpacked_carried : (xs : List ℕ) → AllByRecursion Carried (unpacked xs)
-unpacked_carried xs = unpacked_carried_at (length xs) xs
 
 packed_push : (bs : List (List ℕ)) (b : List ℕ) → packed (bs ++ b ∷ []) ≡ packed bs ++ framed b
 packed_push [] b = append-nil (framed b)

@@ -1,13 +1,9 @@
--- Steps of the loops that fill, empty and read a row of bytes.
+-- Steps that empty and read a row of bytes.
 use Rattle.std.proofs.Common.{◌≡◌, ℕ, zero, suc, ◌+◌, ◌*◌, ◌<◌, ◌≤◌, List, [], ◌∷◌, ◌++◌, length, get_or, take, drop, set, Some, None, Option, unwrap_or, sym, refl, ap, ◌∙◌, subst, append_assoc, arith}
 use Rattle.std.specs.List.{slice_get}
-use Rattle.std.proofs.lemmas.List.{take_more, drop_more, drop-drop, length-drop, set_at, length-take-le, length-take, get_or_past, get_or-take, get_or-drop}
+use Rattle.std.proofs.lemmas.List.{take_more, drop_more, drop-drop, length-drop, set_at, length-take-le, get_or-take, get_or-drop}
 use Rattle.packing.specs.Rowed.{unpacked, Packs, lying, Lies}
 use Rattle.packing.proofs.Rowed.{two_bytes, read}
-
-pub put_step : (xs ys zs bs : List ℕ) (i : ℕ) → i < length bs → ys ≡ xs ++ take i bs → zs ≡ ys ++ get_or bs i 0 ∷ [] → zs ≡ xs ++ take (i + 1) bs
-put_step xs ys zs bs i h e q =
-    q ∙ ap (λ s. s ++ get_or bs i 0 ∷ []) e ∙ append_assoc xs (take i bs) (get_or bs i 0 ∷ []) ∙ ap (λ s. xs ++ s) (sym (take_more bs i 0 h))
 
 -- a list by the first element that was taken out and what is left
 pub taken : (xs ys : List ℕ) (x : ℕ) → Some x ≡ slice_get xs 0 → ys ≡ drop 1 xs → xs ≡ x ∷ ys
@@ -69,9 +65,14 @@ letter_long xs at n x h e =
     let s : at + 3 ≡ at + 2 + 1 = omega arith in
     e ∙ ap (λ i. get_or xs i 0) s ∙ sym (get_or-take n (drop (at + 2) xs) 1 0 h ∙ get_or-drop (at + 2) xs 1 0)
 
-pub letter_short : (xs : List ℕ) (at n : ℕ) → n ≤ 1 → 0 ≡ get_or (lying xs at n) 1 0
-letter_short xs at n h = sym (get_or_past (lying xs at n) 1 0 (omega (arith, length-take n (drop (at + 2) xs))))
-
 -- two bytes taken out
 pub taken_two : (xs ys zs : List ℕ) (h l : ℕ) → Some h ≡ slice_get xs 0 → ys ≡ drop 1 xs → Some l ≡ slice_get ys 0 → zs ≡ drop 1 ys → xs ≡ h ∷ (l ∷ zs)
 taken_two xs ys zs h l eh ey el ez = taken xs ys h eh ey ∙ ap (λ t. h ∷ t) (taken ys zs l el ez)
+
+-- a burst that was taken out: two bytes for its length, and as many as a part of the place that it fits has
+pub burst_taken : (xs ys zs rs p : List ℕ) (h l n : ℕ) → Packs xs → 104 ≤ length p → Some h ≡ slice_get xs 0 → ys ≡ drop 1 xs → Some l ≡ slice_get ys 0 → zs ≡ drop 1 ys
+    → n ≡ h * 256 + l → rs ≡ drop (length (take n p)) zs → Packs rs × (unpacked rs ≡ drop 1 (unpacked xs))
+burst_taken xs ys zs rs p h l n k room eh ey el ez en er =
+    let r = read xs zs h l n k (taken_two xs ys zs h l eh ey el ez) en in
+    let e : rs ≡ drop n zs = er ∙ ap (λ i. drop i zs) (length-take-le n p (omega (arith, r.few))) in
+    (subst (λ (o : List ℕ). Packs o) (sym e) r.packs, ap unpacked e ∙ sym (ap (drop 1) r.reads))

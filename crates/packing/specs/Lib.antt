@@ -1,2 +1,4 @@
 pub mod Rowed
+pub mod Letters
 pub mod Packed
+pub mod AllCarried

@@ -1,7 +1,7 @@
 // What a packed medium does.
-ghost use Rattle.std.specs.Prelude.{◌≡◌, min, [], length, drop};
-ghost use Rattle.ring.specs.Ring.{places, beyond, memory};
-ghost use Rattle.packing.specs.Packed.{carries, PacksIn, Kept};
+ghost use Rattle.std.specs.Prelude.{◌≡◌, []};
+ghost use Rattle.packing.specs.AllCarried.{all_carried};
+ghost use Rattle.packing.specs.Packed.{carries, Over, Anew, PacksIn, Kept};
 
 use crate::packed::PackedMedium;
 use crate::rows;
@@ -19,8 +19,7 @@ impl<'a> PackedMedium<'a> {
     // limit is never written.
     pub fn over(slots: &'a mut [u8]) -> Self
         ensures bursts { carries result ≡ [] }
-        ensures places { places result.ring ≡ min (length slots.old) 65536 }
-        ensures beyond { beyond result.ring ≡ drop 65536 slots.old }
+        ensures ring { Over slots.old result }
     {
         PackedMedium {
             ring: Ring::over(slots, PACKED_LIMIT),
@@ -30,8 +29,7 @@ impl<'a> PackedMedium<'a> {
     // Starts anew with nothing under way, in up to `limit` bytes of its memory.
     pub fn restart(&mut self, limit: usize)
         ensures bursts { carries self.new ≡ [] }
-        ensures places { places self.new.ring ≡ min (length (memory self.old.ring)) (min limit 65536) }
-        ensures memory { memory self.new.ring ≡ memory self.old.ring }
+        ensures ring { Anew self.old limit self.new }
     {
         self.ring.restart(limit.min(PACKED_LIMIT));
     }
@@ -43,6 +41,8 @@ impl<'a> Medium for PackedMedium<'a> {
     ghost offers = { PacksIn };
 
     ghost takes = { Kept };
+
+    ghost all_carried = { all_carried };
 
     fn offer(&mut self, burst: &[u8]) -> Offer {
         if !is_carried(burst) {
@@ -56,18 +56,20 @@ impl<'a> Medium for PackedMedium<'a> {
     }
 
     fn count(&self) -> usize {
-        rows::count(&self.ring)
+        self.letters().count()
     }
 
-    fn holds_commands(&self) -> bool {
-        rows::holds(&self.ring, Class::Command)
-    }
-
-    fn holds_answers(&self) -> bool {
-        rows::holds(&self.ring, Class::Answer)
+    fn holds(&self, class: Class) -> bool {
+        self.letters().any(|letter| class.has(letter))
     }
 
     fn take(&mut self, place: &mut [u8; LONGEST]) -> usize {
-        rows::unpack(&mut self.ring, place)
+        let Some(high) = self.ring.take() else {
+            return 0;
+        };
+        let low = self.ring.take().unwrap();
+        let len = u16::from_be_bytes([high, low]) as usize;
+        rows::take_all(&mut self.ring, &mut place[..len]);
+        len
     }
 }

@@ -1,10 +1,10 @@
 use Rattle.std.proofs.Common.{◌≡◌, ◌++◌, take, drop}
-use Rattle.ring.specs.Ring.{elements, places, beyond}
+use Rattle.ring.specs.Ring.{elements, InPlace}
 use Rattle.packing.proofs.rows.take_all.Given as goal
 
-abbrev pub invariant-loop-i : goal.invariant-loop-i
-invariant-loop-i l =
-    (elements l.ring ≡ drop l.i (elements l.initial.ring))
-    × (l.place ≡ take l.i (elements l.initial.ring) ++ drop l.i l.initial.place)
-    × (places l.ring ≡ places l.initial.ring)
-    × (beyond l.ring ≡ beyond l.initial.ring)
+abbrev pub invariant-loop-byte : goal.invariant-loop-byte
+invariant-loop-byte l = record {
+  rest : elements l.ring ≡ drop l.byte-index (elements l.initial.ring);
+  copied : l.byte-items ≡ take l.byte-index (elements l.initial.ring) ++ drop l.byte-index l.initial.byte-items;
+  kept : InPlace l.initial.ring l.ring;
+}

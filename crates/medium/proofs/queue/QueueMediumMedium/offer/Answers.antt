@@ -1,16 +1,17 @@
-use Rattle.std.proofs.Common.{true, false}
-use Rattle.medium.specs.declared.offer.Offer.TheVariants.{Whole, Spoilt}
-use Rattle.medium.proofs.Queued.{took_in, meaning}
+use Rattle.std.proofs.Common.{arith}
+use Rattle.std.proofs.lemmas.List.{length-map, map_push}
+use Rattle.std.proofs.lemmas.Grind.{common_steps}
+use Rattle.medium.specs.Records.{bytes_of}
+use Rattle.ring.specs.Ring.{elements}
 use Rattle.medium.proofs.queue.QueueMediumMedium.offer.Goals as goal
 
-pub returns-then-put : goal.returns-then-put
-returns-then-put c =
-    let x = took_in c.args.self.now record { ring = c.put.new.self } c.in-Some.record c.args.burst.now true c.in-Some.ensures
-    c.if-put.ensures.test c.if-put.ensures.after record { places = c.put.ensures.places; beyond = c.put.ensures.beyond } in
-    record { meaning = meaning c.args.self.now c.args.burst.now Whole record { ring = c.put.new.self } x; exact = x }
+pub returns-then-put-clause-exact : goal.returns-then-put-clause-exact
+returns-then-put-clause-exact c =
+    let n = length-map (elements c.args.self.now.ring) bytes_of in
+    let p = map_push bytes_of (elements c.args.self.now.ring) c.in-Some.record in
+    record { answer = grind (arith, common_steps, n); bursts = grind (arith, common_steps, p); kept = c.put.ensures.place }
 
-pub returns-else-put : goal.returns-else-put
-returns-else-put c =
-    let x = took_in c.args.self.now record { ring = c.put.new.self } c.in-Some.record c.args.burst.now false c.in-Some.ensures
-    c.if-put.ensures.test c.if-put.ensures.after record { places = c.put.ensures.places; beyond = c.put.ensures.beyond } in
-    record { meaning = meaning c.args.self.now c.args.burst.now Spoilt record { ring = c.put.new.self } x; exact = x }
+pub returns-else-put-clause-exact : goal.returns-else-put-clause-exact
+returns-else-put-clause-exact c =
+    let n = length-map (elements c.args.self.now.ring) bytes_of in
+    record { answer = grind (arith, common_steps, n); bursts = grind (arith, common_steps, n); kept = c.put.ensures.place }

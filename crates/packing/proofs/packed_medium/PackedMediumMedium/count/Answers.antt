@@ -1,6 +1,11 @@
-use Rattle.ring.specs.Ring.{elements}
-use Rattle.packing.proofs.Rowed.{unpacked_carried}
+use Rattle.std.proofs.Common.{get_or, ◌∙◌}
+use Rattle.std.proofs.lemmas.List.{length-map}
+use Rattle.std.proofs.lemmas.Iterator.Consumers.{count_from_yields_List, YieldsList-from_first}
+use Rattle.packing.specs.Letters.{left}
+use Rattle.packing.specs.Packed.{carries}
 use Rattle.packing.proofs.packed_medium.PackedMediumMedium.count.Goals as goal
 
 pub returns : goal.returns
-returns c = record { value = c.count.ensures; carried = unpacked_carried (elements c.args.self.now.ring) }
+returns c =
+    count_from_yields_List _ c.count.result c.count.ensures.ran (YieldsList-from_first (λ l. l) left _ c.letters.ensures.letters)
+    ∙ length-map (carries c.args.self.now) (λ b. get_or b 1 0)
