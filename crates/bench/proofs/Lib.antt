@@ -1,3 +1,0 @@
-mod Shown
-mod Takings
-mod Writings

@@ -1,7 +1,4 @@
-// What is printed for a line of a script.
+// What is printed for a line of a script about packets and media, and what it leaves.
 #![tactic(auto)]
 
-mod answer;
-pub mod media;
-mod restart;
 pub mod run;

@@ -1,38 +1,36 @@
 -- What a call on an end did, in print. Assumes nothing.
-use Rattle.std.specs.Prelude.{ℕ, List, [], ◌∷◌, ◌++◌, take, Some, None, codes, decimal, Option}
+use Rattle.std.specs.Prelude.{ℕ, List, [], ◌∷◌, ◌++◌, take, codes, decimal, Option}
+use Rattle.std.specs.Option.{option_map, unwrap_or}
 use Rattle.notation.specs.Hex.{hex}
 use Rattle.packet.specs.Refusals.{Answer, refused, gave}
 use Rattle.primary.specs.declared.event.Timer.{Timer}
-use Rattle.primary.specs.declared.event.Timer.TheVariants.{Enq, Data}
 use Rattle.primary.specs.declared.outcome.Outcome.{Outcome}
+use Rattle.primary.specs.Names.{timer_text}
 use Rattle.primary.specs.Outcomes.{outcome_number}
 use Rattle.station.specs.End.{Done, burst}
 use Rattle.station.specs.Reports.{Told, telling}
-use Rattle.answers.specs.Lines.{end, refusal}
+use Rattle.answers.specs.Lines.{end, refusal, text_or_none}
 
 -- the letter that is sent
 abbrev pub letter_text : Option ℕ → List ℕ
-letter_text None = codes "none"
-letter_text (Some l) = l ∷ []
-
-abbrev pub timer_name : Timer → List ℕ
-timer_name Enq = codes "enq:"
-timer_name Data = codes "data:"
+letter_text l = text_or_none (λ x. x ∷ []) l
 
 -- `enq:200`
-abbrev pub timer_text : Option (Timer × ℕ) → List ℕ
-timer_text None = codes "none"
-timer_text (Some t) = timer_name t.0 ++ decimal t.1
+abbrev pub started_text : Timer × ℕ → List ℕ
+started_text t = timer_text t.0 ++ (codes ":" ++ decimal t.1)
 
 -- `sent=E burst=024503C8 timer=enq:200 outcomes=0,0,0`, with the burst that was sent
 abbrev pub report : Told → List ℕ → List ℕ
 report t b =
-    codes "sent=" ++ (letter_text t.letter ++ (codes " burst=" ++ (hex b ++ (codes " timer=" ++ (timer_text t.timer ++ (codes " outcomes=" ++ (decimal t.arrivals ++ (codes "," ++ (decimal t.give_ups ++ (codes "," ++ (decimal t.no_connections ++ end)))))))))))
+    codes "sent=" ++ (letter_text (option_map (λ p. p.0) t.sent) ++ (codes " burst=" ++ (hex b ++ (codes " timer=" ++ (text_or_none started_text t.timer ++ (codes " outcomes=" ++ (decimal t.arrivals ++ (codes "," ++ (decimal t.give_ups ++ (codes "," ++ (decimal t.no_connections ++ end)))))))))))
+
+abbrev pub sent_length : Told → ℕ
+sent_length t = unwrap_or (option_map (λ p. p.1) t.sent) 0
 
 -- what a call answers, behind a word; the burst that was sent lies at the front of its place
 abbrev pub told_line : List ℕ → Answer Told → List ℕ → List ℕ
 told_line word (refused n) place = refusal n
-told_line word (gave t) place = word ++ report t (take t.length place)
+told_line word (gave t) place = word ++ report t (take (sent_length t) place)
 
 -- what a call does, behind a word, by the check bytes of a kind
 abbrev pub done_line : (List ℕ → List ℕ) → List ℕ → Answer Done → List ℕ

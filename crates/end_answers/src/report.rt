@@ -1,43 +1,29 @@
 // What a call on an end did, in print.
-ghost use Rattle.std.specs.Prelude.{◌≡◌, IfOk, string_bytes};
-ghost use Rattle.std.specs.Option.{option_map};
-ghost use Rattle.packet.specs.Bytes.{byte_of};
+ghost use Rattle.std.specs.Prelude.{◌≡◌, Some, IfOk, string_bytes};
 ghost use Rattle.packet.specs.Refusals.{answer, gave};
 ghost use Rattle.station.specs.Reports.{told};
-ghost use Rattle.end_answers.specs.Reports.{letter_text, timer_text, told_line};
+ghost use Rattle.end_answers.specs.Reports.{started_text, told_line};
 
-use answers::print::refused;
-use notation::hex::hex;
-use packet::letter::Letter;
+use answers::print::{OrNone, refused};
+use notation::hex::Hex;
 use packet::refusal::Refusal;
 use primary::event::Timer;
 use station::report::Report;
 use std::alloc::{AllocError, Global};
+use std::fmt;
 
 // The size of the place that a call is lent.
 pub const PLACE: usize = 104;
 
-fn letter_text(sent: Option<Letter>) -> &'static str
-    ensures { result.now ≡ letter_text (option_map byte_of sent) }
-{
-    match sent {
-        None => "none",
-        Some(Letter::Enq) => "E",
-        Some(Letter::Data0) => "0",
-        Some(Letter::Data1) => "1",
-        Some(Letter::Ack0) => "A",
-        Some(Letter::Ack1) => "B",
-        Some(Letter::Reset) => "R",
-    }
-}
+// A timer that was started, and its period.
+#[derive(Clone, Copy)]
+struct Started(Timer, u16);
 
-fn timer_text(heap: Global, timer: Option<(Timer, u16)>) -> Result<String, AllocError>
-    ensures { IfOk result (λ s. string_bytes s ≡ timer_text timer) }
-{
-    match timer {
-        None => String::from_str(heap, "none"),
-        Some((Timer::Enq, period)) => format!(in heap; "enq:{period}"),
-        Some((Timer::Data, period)) => format!(in heap; "data:{period}"),
+impl fmt::Display for Started {
+    ghost output = { λ started. Some (started_text (started.0, started.1)) };
+
+    fn fmt<W: fmt::Write>(&self, f: &mut fmt::Formatter<W>) -> fmt::Result {
+        write!(f, "{}:{}", self.0, self.1)
     }
 }
 
@@ -50,14 +36,12 @@ fn report_line(
 ) -> Result<String, AllocError>
     ensures { IfOk result (λ s. string_bytes s ≡ told_line word.now (gave (told report)) place.now) }
 {
-    let letter = letter_text(report.sent);
-    let burst = hex(heap, &place[0..report.length.min(PLACE)])?;
-    let timer = timer_text(heap, report.timer)?;
-    let sent = format!(in heap; "{word}sent={letter} burst={burst}")?;
-    let arrived = report.arrived;
-    let given_up = report.given_up;
-    let no_connection = report.no_connection;
-    format!(in heap; "{sent} timer={timer} outcomes={arrived},{given_up},{no_connection}\n")
+    let letter = OrNone(report.sent.map(|sent| sent.letter));
+    let length = report.sent.map_or(0, |sent| sent.length);
+    let burst = Hex::of(&place[..length.min(PLACE)]);
+    let timer = OrNone(report.timer.map(|(timer, period)| Started(timer, period)));
+    let tally = report.tally;
+    format!(in heap; "{word}sent={letter} burst={burst} timer={timer} outcomes={tally}\n")
 }
 
 // What a call answered, behind a word where it is not refused. The call was lent the place.

@@ -1,90 +1,60 @@
 // The state of an end, in print.
-ghost use Rattle.std.specs.Prelude.{◌≡◌, IfOk, string_bytes};
-ghost use Rattle.packet.specs.Numbers.{is_one};
-ghost use Rattle.primary.specs.Model.{state_of};
-ghost use Rattle.primary.specs.Station.{Phase};
+ghost use Rattle.std.specs.Prelude.{◌≡◌, [], ◌∷◌, Some, IfOk, string_bytes};
+ghost use Rattle.packet.specs.Bytes.{byte_of};
 ghost use Rattle.station.specs.Models.{model};
-ghost use Rattle.end_answers.specs.States.{state_text, number_digit, last_text, out_text, sender, receiver, state_line};
+ghost use Rattle.end_answers.specs.States.{status_text, last_text, holding_text, state_line};
 
-use crate::printed_settings::values;
+use answers::print::OrNone;
 use packet::checks::Check;
+use packet::letter::Letter;
 use packet::number::Number;
-use primary::station::State;
-use secondary::reply::Reply;
+use primary::station::Status;
 use station::end::End;
+use station::report::Holding;
 use std::alloc::{AllocError, Global};
-
-fn state_text(state: State) -> &'static str
-    ensures { (p : Phase) → state ≡ state_of p → result.now ≡ state_text p }
-{
-    match state {
-        State::Off => "Off",
-        State::Ready => "Ready",
-        State::Waiting => "Waiting",
-        State::Asking => "Asking",
-    }
-}
-
-fn number_digit(number: Number) -> u8
-    ensures { result ≡ number_digit (is_one number) }
-{
-    match number {
-        Number::Zero => 0,
-        Number::One => 1,
-    }
-}
-
-fn last_text(last: Reply) -> &'static str
-    ensures { result.now ≡ last_text last }
-{
-    match last {
-        Reply::Reset => "R",
-        Reply::Ack(Number::Zero) => "A",
-        Reply::Ack(Number::One) => "B",
-    }
-}
-
-fn out_text(heap: Global, out: Option<u8>) -> Result<String, AllocError>
-    ensures { IfOk result (λ s. string_bytes s ≡ out_text out) }
-{
-    match out {
-        None => String::from_str(heap, "none"),
-        Some(buffer) => format!(in heap; "{buffer}"),
-    }
-}
+use std::fmt;
 
 // The primary station's part.
-fn sender<K: Check>(heap: Global, end: &End<K>) -> Result<String, AllocError>
-    ensures { IfOk result (λ s. string_bytes s ≡ sender (model end.now).primary) }
-{
-    let status = end.status();
-    let state = state_text(status.state);
-    let number = number_digit(status.number);
-    let attempts = status.attempts;
-    let credit = status.credit;
-    format!(in heap; "state={state} number={number} attempts={attempts} credit={credit}")
+struct Sender(Status);
+
+impl fmt::Display for Sender {
+    ghost output = { λ sender. Some (status_text sender.0) };
+
+    fn fmt<W: fmt::Write>(&self, f: &mut fmt::Formatter<W>) -> fmt::Result {
+        let Status { state, number, attempts, credit, .. } = self.0;
+        write!(f, "state={state} number={number} attempts={attempts} credit={credit}")
+    }
 }
 
 // The secondary station's part.
-fn receiver<K: Check>(heap: Global, end: &End<K>) -> Result<String, AllocError>
-    ensures { IfOk result (λ s. string_bytes s ≡ receiver (model end.now).secondary) }
+struct Receiver(Holding);
+
+impl fmt::Display for Receiver {
+    ghost output = { λ receiver. Some (holding_text receiver.0) };
+
+    fn fmt<W: fmt::Write>(&self, f: &mut fmt::Formatter<W>) -> fmt::Result {
+        let last = last_letter(self.0.last_answer);
+        let out = OrNone(self.0.buffer_out);
+        write!(f, "last={last} held={} out={out}", self.0.held)
+    }
+}
+
+// The letter of the last answer.
+fn last_letter(last: Option<Number>) -> Letter
+    ensures { byte_of result ∷ [] ≡ last_text last }
 {
-    let holding = end.holding();
-    let last = last_text(holding.last_answer);
-    let held = holding.held;
-    let out = out_text(heap, holding.buffer_out)?;
-    format!(in heap; "last={last} held={held} out={out}")
+    last.map_or(Letter::Reset, Letter::Ack)
 }
 
 // The state of an end.
 pub fn state<K: Check>(heap: Global, end: &End<K>) -> Result<String, AllocError>
     ensures { IfOk result (λ s. string_bytes s ≡ state_line (model end.now)) }
 {
-    let sender = sender(heap, end)?;
-    let values = values(heap, end.settings())?;
-    let receiver = receiver(heap, end)?;
     let status = end.status();
+    let sender = Sender(status);
+    let settings = end.settings();
+    let receiver = Receiver(end.holding());
     let sending = status.unsettled;
     let outcomes = status.uncollected;
-    format!(in heap; "{sender} {values} {receiver} sending={sending} outcomes={outcomes}\n")
+    format!(in heap; "{sender} {settings} {receiver} sending={sending} outcomes={outcomes}\n")
 }

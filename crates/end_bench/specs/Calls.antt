@@ -15,7 +15,7 @@ use Rattle.end_answers.specs.Reports.{done_line, outcome_line, set_line}
 use Rattle.end_answers.specs.States.{state_line}
 use Rattle.end_script.specs.Calls as call
 use Rattle.secondary.specs.declared.station.DeliverySlip.{DeliverySlip}
-use Rattle.end_bench.specs.declared.named.NamedEnd.{NamedEnd}
+use Rattle.end_bench.specs.declared.named.OpenEnd.{OpenEnd}
 use Rattle.end_bench.specs.Fair.{Slip, kept}
 use Rattle.end_bench.specs.Named.{Named, open_end, check}
 
@@ -116,7 +116,7 @@ slip_after e s (call.settings f) = s
 slip_after e s call.state = s
 
 -- the end of a name and the slip of a name, and what a call leaves of them
-abbrev pub both : NamedEnd → Option DeliverySlip → Named × Option Slip
+abbrev pub both : Option OpenEnd → Option DeliverySlip → Named × Option Slip
 both e s = (open_end e, kept s)
 
 abbrev pub both_after : Named → Option Slip → call.Call → Named × Option Slip

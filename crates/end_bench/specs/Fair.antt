@@ -3,7 +3,7 @@ use Rattle.std.specs.Prelude.{ℕ, Bool, true, false, cond, ◌&&◌, ◌||◌, 
 use Rattle.std.specs.Option.{option_map}
 use Rattle.secondary.specs.declared.station.DeliverySlip.{DeliverySlip}
 use Rattle.secondary.specs.Station.{Station, oldest_buffer}
-use Rattle.end_bench.specs.declared.named.NamedEnd.{NamedEnd}
+use Rattle.end_bench.specs.declared.named.OpenEnd.{OpenEnd}
 use Rattle.end_bench.specs.Named.{Named, open_end}
 
 -- a line number and a buffer number
@@ -35,5 +35,5 @@ same (Some p) (Some q) = p.0 == q.0 && p.1 == q.1
 abbrev pub fair : Option Slip → Option Slip → Option Slip → Option Slip → Bool
 fair s t x y = (same s x && same t y) || (same s y && same t x)
 
-abbrev pub fairly_kept : Option DeliverySlip → Option DeliverySlip → NamedEnd → NamedEnd → Bool
+abbrev pub fairly_kept : Option DeliverySlip → Option DeliverySlip → Option OpenEnd → Option OpenEnd → Bool
 fairly_kept s t a b = fair (kept s) (kept t) (lent (open_end a)) (lent (open_end b))

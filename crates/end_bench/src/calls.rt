@@ -8,7 +8,7 @@ ghost use Rattle.end_bench.specs.Calls.{if_open, changed, is_out, bars_opening, 
 ghost use Rattle.end_bench.specs.Fair.{kept};
 ghost use Rattle.end_bench.specs.Named.{open_end, check};
 
-use crate::named::NamedEnd;
+use crate::named::OpenEnd;
 use crate::{of_kind, slips};
 use answers::print::wrong;
 use answers::values::FILL;
@@ -23,87 +23,86 @@ use secondary::station::DeliverySlip;
 use station::end::End;
 use station::report::Report;
 use std::alloc::{AllocError, Global};
-use std::mem::replace;
 
 // Whether the end is open and has a delivery out.
-fn is_out(end: &NamedEnd) -> bool
+fn is_out(end: &Option<OpenEnd>) -> bool
     ensures { result ≡ is_out (open_end end.now) }
 {
     match end {
-        NamedEnd::Closed => false,
-        NamedEnd::Sum(end) => slips::has_out(end),
-        NamedEnd::Xor(end) => slips::has_out(end),
+        None => false,
+        Some(OpenEnd::Sum(open)) => slips::has_out(open),
+        Some(OpenEnd::Xor(open)) => slips::has_out(open),
     }
 }
 
 // Whether a slip is kept for the name, or its end has a delivery out.
-fn bars_opening(end: &NamedEnd, slip: &Option<DeliverySlip>) -> bool
+fn bars_opening(end: &Option<OpenEnd>, slip: &Option<DeliverySlip>) -> bool
     ensures { result ≡ bars_opening (open_end end.now) (kept slip.now) }
 {
     slip.is_some() || is_out(end)
 }
 
-// A call on the end that is open, whatever its kind: taken out, and put back after the call.
+// A call on the end that is open, whatever its kind; a closure has one type of argument, and so could not be for both.
 macro_rules! if_open {
     ($heap:expr, $end:expr, $open:ident => $call:expr) => {
-        match replace($end, NamedEnd::Closed) {
-            NamedEnd::Closed => wrong($heap, Fault::NoEnd),
-            NamedEnd::Sum(mut $open) => {
-                let line = $call;
-                *$end = NamedEnd::Sum($open);
-                line
-            }
-            NamedEnd::Xor(mut $open) => {
-                let line = $call;
-                *$end = NamedEnd::Xor($open);
-                line
-            }
+        match $end {
+            None => wrong($heap, Fault::NoEnd),
+            Some(OpenEnd::Sum($open)) => $call,
+            Some(OpenEnd::Xor($open)) => $call,
         }
     };
 }
 
-pub(crate) fn submit(heap: Global, end: &mut NamedEnd, message: &[u8]) -> Result<String, AllocError>
+pub(crate) fn submit(
+    heap: Global,
+    end: &mut Option<OpenEnd>,
+    message: &[u8],
+) -> Result<String, AllocError>
     ensures printed { IfOk result (λ s. string_bytes s ≡ call_line (open_end end.old) None (call.submit message.now)) }
     ensures after { open_end end.new ≡ end_after (open_end end.old) None (call.submit message.now) }
 {
-    if_open!(heap, end, open => of_kind::submit(heap, &mut open, message))
+    if_open!(heap, end, open => of_kind::submit(heap, open, message))
 }
 
-pub(crate) fn timeout(heap: Global, end: &mut NamedEnd) -> Result<String, AllocError>
+pub(crate) fn timeout(heap: Global, end: &mut Option<OpenEnd>) -> Result<String, AllocError>
     ensures printed { IfOk result (λ s. string_bytes s ≡ call_line (open_end end.old) None call.timeout) }
     ensures after { open_end end.new ≡ end_after (open_end end.old) None call.timeout }
 {
-    if_open!(heap, end, open => of_kind::timeout(heap, &mut open))
+    if_open!(heap, end, open => of_kind::timeout(heap, open))
 }
 
-pub(crate) fn arrive(heap: Global, end: &mut NamedEnd, burst: &[u8]) -> Result<String, AllocError>
+pub(crate) fn arrive(
+    heap: Global,
+    end: &mut Option<OpenEnd>,
+    burst: &[u8],
+) -> Result<String, AllocError>
     ensures printed { IfOk result (λ s. string_bytes s ≡ call_line (open_end end.old) None (call.arrive burst.now)) }
     ensures after { open_end end.new ≡ end_after (open_end end.old) None (call.arrive burst.now) }
 {
-    if_open!(heap, end, open => of_kind::arrive(heap, &mut open, burst))
+    if_open!(heap, end, open => of_kind::arrive(heap, open, burst))
 }
 
-pub(crate) fn collect(heap: Global, end: &mut NamedEnd) -> Result<String, AllocError>
+pub(crate) fn collect(heap: Global, end: &mut Option<OpenEnd>) -> Result<String, AllocError>
     ensures printed { IfOk result (λ s. string_bytes s ≡ call_line (open_end end.old) None call.collect) }
     ensures after { open_end end.new ≡ end_after (open_end end.old) None call.collect }
 {
-    if_open!(heap, end, open => of_kind::collect(heap, &mut open))
+    if_open!(heap, end, open => of_kind::collect(heap, open))
 }
 
 pub(crate) fn change_settings(
     heap: Global,
-    end: &mut NamedEnd,
+    end: &mut Option<OpenEnd>,
     frame: &[u8],
 ) -> Result<String, AllocError>
     ensures printed { IfOk result (λ s. string_bytes s ≡ call_line (open_end end.old) None (call.settings frame.now)) }
     ensures after { open_end end.new ≡ end_after (open_end end.old) None (call.settings frame.now) }
 {
-    if_open!(heap, end, open => of_kind::change_settings(heap, &mut open, frame))
+    if_open!(heap, end, open => of_kind::change_settings(heap, open, frame))
 }
 
 pub(crate) fn take(
     heap: Global,
-    end: &mut NamedEnd,
+    end: &mut Option<OpenEnd>,
     slip: &mut Option<DeliverySlip>,
     place: &mut [u8],
 ) -> Result<String, AllocError>
@@ -111,34 +110,32 @@ pub(crate) fn take(
     ensures after { open_end end.new ≡ end_after (open_end end.old) (kept slip.old) (call.take (length place.old)) }
     ensures slip { kept slip.new ≡ slip_after (open_end end.old) (kept slip.old) (call.take (length place.old)) }
 {
-    if_open!(heap, end, open => slips::take(heap, &mut open, slip, place))
+    if_open!(heap, end, open => slips::take(heap, open, slip, place))
 }
 
 pub(crate) fn give(
     heap: Global,
-    end: &mut NamedEnd,
+    end: &mut Option<OpenEnd>,
     slip: &mut Option<DeliverySlip>,
 ) -> Result<String, AllocError>
     ensures printed { IfOk result (λ s. string_bytes s ≡ if_open (open_end end.old) (λ _ x. give_line (kept slip.old) x)) }
     ensures after { open_end end.new ≡ changed (λ _ x. given (kept slip.old) x) (open_end end.old) }
     ensures slip { kept slip.new ≡ of_open (open_end end.old) (kept slip.old) (λ x. slip_given x (kept slip.old)) }
 {
-    if_open!(heap, end, open => slips::give(heap, &mut open, slip))
+    if_open!(heap, end, open => slips::give(heap, open, slip))
 }
 
-pub(crate) fn state(heap: Global, end: &NamedEnd) -> Result<String, AllocError>
+pub(crate) fn state(heap: Global, end: &Option<OpenEnd>) -> Result<String, AllocError>
     ensures { IfOk result (λ s. string_bytes s ≡ call_line (open_end end.now) None call.state) }
 {
-    match end {
-        NamedEnd::Closed => wrong(heap, Fault::NoEnd),
-        NamedEnd::Sum(open) => state::state(heap, open),
-        NamedEnd::Xor(open) => state::state(heap, open),
-    }
+    if_open!(heap, end, open => state::state(heap, open))
 }
 
 // Opens an end of a kind; one that the name had is gone, unless this is refused.
+// The kind is a type in each arm alone: a trait's method from an end to an open one gets no generated proof, since the
+// type of an end has a bound with ghost members.
 fn open_as(
-    end: &mut NamedEnd,
+    end: &mut Option<OpenEnd>,
     line: u8,
     kind: Kind,
     frame: &[u8],
@@ -148,30 +145,24 @@ fn open_as(
     ensures after { open_end end.new ≡ opened kind (opening_of line frame.now) (open_end end.old) }
     ensures placed { place.new ≡ placed_by (check kind) (opening_of line frame.now) place.old }
 {
-    match kind {
-        Kind::Sum => match End::new(Sum, line, frame, place) {
-            Ok(made) => {
-                let (open, report) = made;
-                *end = NamedEnd::Sum(open);
-                Ok(report)
-            }
-            Err(why) => Err(why),
-        },
-        Kind::Xor => match End::new(Xor, line, frame, place) {
-            Ok(made) => {
-                let (open, report) = made;
-                *end = NamedEnd::Xor(open);
-                Ok(report)
-            }
-            Err(why) => Err(why),
-        },
-    }
+    let (open, report) = match kind {
+        Kind::Sum => {
+            let (open, report) = End::new(Sum, line, frame, place)?;
+            (OpenEnd::Sum(open), report)
+        }
+        Kind::Xor => {
+            let (open, report) = End::new(Xor, line, frame, place)?;
+            (OpenEnd::Xor(open), report)
+        }
+    };
+    *end = Some(open);
+    Ok(report)
 }
 
 // Opens an end, unless a slip or a delivery bars it.
 pub(crate) fn open(
     heap: Global,
-    end: &mut NamedEnd,
+    end: &mut Option<OpenEnd>,
     slip: &Option<DeliverySlip>,
     line: u8,
     kind: Kind,

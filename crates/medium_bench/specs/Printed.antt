@@ -1,39 +1,40 @@
 -- What is printed for a medium command. Assumes nothing.
-use Rattle.std.specs.Prelude.{ℕ, Bool, cond, List, ◌++◌, length, Some, None, codes, decimal, Option}
-use Rattle.medium.specs.Bursts.{first, some_letter}
-use Rattle.medium.specs.Letters as letters
+use Rattle.std.specs.Prelude.{ℕ, List, ◌++◌, length, Some, None, codes, decimal, Option}
+use Rattle.std.specs.Option.{option_map}
+use Rattle.medium.specs.Bursts.{first}
+use Rattle.medium.specs.Offered.{name_of}
 use Rattle.medium.specs.declared.offer.Offer.{Offer}
-use Rattle.medium.specs.declared.offer.Offer.TheVariants.{Whole, Spoilt}
 use Rattle.medium_script.specs.Calls.{Call, make, offer, take, count, holds, Command}
 use Rattle.medium_script.specs.declared.call.Name.{Name}
 use Rattle.medium_script.specs.declared.call.Name.TheVariants.{M, N}
 use Rattle.script_words.specs.declared.fault.Fault.TheVariants.{NoMedium}
 use Rattle.answers.specs.Lines.{end, burst_line, wrong}
+use Rattle.named_media.specs.Holding.{holding, holds_text}
+use Rattle.named_media.specs.declared.holds.Holds.{Holds}
 use Rattle.named_media.specs.Media.{Named, under_way, offer_answer}
 
 abbrev pub offer_line : Offer → List ℕ
-offer_line Whole = codes "whole" ++ end
-offer_line Spoilt = codes "spoilt" ++ end
+offer_line o = name_of o ++ end
 
--- `true` or `false`
-abbrev pub truth : Bool → List ℕ
-truth b = cond b (codes "true") (codes "false")
-
--- `commands=true answers=false`
-abbrev pub holds_line : Bool → Bool → List ℕ
-holds_line commands answers = codes "commands=" ++ (truth commands ++ (codes " answers=" ++ (truth answers ++ end)))
+abbrev pub holds_line : Holds → List ℕ
+holds_line h = holds_text h ++ end
 
 -- what is printed of a medium, unless it is not made
 abbrev pub if_made : {A : Type 0} → Option A → (A → List ℕ) → List ℕ
 if_made None line = wrong NoMedium
 if_made (Some x) line = line x
 
+-- the same, where the answer is printed as `text` says
+abbrev pub said : {A : Type 0} → (A → Option (List ℕ)) → Option A → Option (List ℕ)
+said text None = Some (wrong NoMedium)
+said text (Some x) = option_map (λ t. t ++ end) (text x)
+
 abbrev pub call_line : Named → Call → List ℕ
 call_line n (make s) = codes "made" ++ end
 call_line n (offer b) = if_made (offer_answer b n) offer_line
 call_line n take = if_made (under_way n) λ bs. burst_line (first bs)
 call_line n count = if_made (under_way n) λ bs. decimal (length bs) ++ end
-call_line n holds = if_made (under_way n) λ bs. holds_line (some_letter letters.command bs) (some_letter letters.answer bs)
+call_line n holds = if_made (under_way n) λ bs. holds_line (holding bs)
 
 abbrev pub named : Name → Named × Named → Named
 named M w = w.0

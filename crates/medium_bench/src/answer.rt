@@ -1,28 +1,21 @@
 // What is printed for a medium's answers.
-ghost use Rattle.std.specs.Prelude.{◌≡◌, ◌++◌, IfOk, string_bytes, decimal};
-ghost use Rattle.answers.specs.Lines.{end};
-ghost use Rattle.medium_bench.specs.Printed.{offer_line, holds_line};
+ghost use Rattle.std.specs.Prelude.{◌≡◌, IfOk, IfSome, string_bytes};
+ghost use Rattle.medium_bench.specs.Printed.{said};
 
-use medium::offer::Offer;
+use answers::print::wrong;
+use script_words::fault::Fault;
 use std::alloc::{AllocError, Global};
+use std::fmt::Display;
 
-pub(crate) fn offered(heap: Global, offer: Offer) -> Result<String, AllocError>
-    ensures { IfOk result (λ s. string_bytes s ≡ offer_line offer) }
+// What a medium answers, where it is made.
+pub(crate) fn answered<T: Display + Drop>(
+    heap: Global,
+    answer: Option<T>,
+) -> Result<String, AllocError>
+    ensures { IfOk result (λ s. IfSome (said T.output answer) (λ text. string_bytes s ≡ text)) }
 {
-    match offer {
-        Offer::Whole => String::from_str(heap, "whole\n"),
-        Offer::Spoilt => String::from_str(heap, "spoilt\n"),
+    match answer {
+        Some(answer) => format!(in heap; "{answer}\n"),
+        None => wrong(heap, Fault::NoMedium),
     }
-}
-
-pub(crate) fn counted(heap: Global, n: usize) -> Result<String, AllocError>
-    ensures { IfOk result (λ s. string_bytes s ≡ decimal n ++ end) }
-{
-    format!(in heap; "{n}\n")
-}
-
-pub(crate) fn holding(heap: Global, commands: bool, answers: bool) -> Result<String, AllocError>
-    ensures { IfOk result (λ s. string_bytes s ≡ holds_line commands answers) }
-{
-    format!(in heap; "commands={commands} answers={answers}\n")
 }

@@ -8,12 +8,12 @@ ghost use Rattle.medium_bench.specs.Printed.{call_line, printed};
 ghost use Rattle.answers.specs.Leaving.{Left};
 ghost use Rattle.medium_bench.specs.Leaving.{after_call, after};
 
-use crate::answer;
-use answers::{print, values};
+use crate::answer::answered;
+use answers::print::PlacedBurst;
+use answers::values;
 use medium::LONGEST;
 use medium_script::call::{MediumCall, MediumCommand, Name};
 use named_media::media::{Media, NamedMedium};
-use script_words::fault::Fault;
 use script_words::words::Bytes;
 use std::alloc::{AllocError, Global};
 
@@ -47,14 +47,8 @@ fn run_call(
         }
         MediumCall::Offer(burst) => offer(heap, medium, burst),
         MediumCall::Take => take(heap, medium),
-        MediumCall::Count => match medium.count() {
-            Some(n) => answer::counted(heap, n),
-            None => print::wrong(heap, Fault::NoMedium),
-        },
-        MediumCall::Holds => match medium.holds() {
-            Some((commands, answers)) => answer::holding(heap, commands, answers),
-            None => print::wrong(heap, Fault::NoMedium),
-        },
+        MediumCall::Count => answered(heap, medium.count()),
+        MediumCall::Holds => answered(heap, medium.holds()),
     }
 }
 
@@ -67,10 +61,7 @@ fn offer(
     ensures after { Left result (model medium.old) (after_call (offer (bytes_of burst.entry)) (model medium.old)) (model medium.new) }
 {
     let burst = values::bytes(heap, burst)?;
-    match medium.offer(&burst) {
-        Some(offer) => answer::offered(heap, offer),
-        None => print::wrong(heap, Fault::NoMedium),
-    }
+    answered(heap, medium.offer(&burst))
 }
 
 fn take(heap: Global, medium: &mut NamedMedium<'_, '_>) -> Result<String, AllocError>
@@ -78,8 +69,6 @@ fn take(heap: Global, medium: &mut NamedMedium<'_, '_>) -> Result<String, AllocE
     ensures after { Left result (model medium.old) (after_call take (model medium.old)) (model medium.new) }
 {
     let mut place = [values::FILL; LONGEST];
-    match medium.take(&mut place) {
-        Some(length) => print::burst(heap, &place[0..length]),
-        None => print::wrong(heap, Fault::NoMedium),
-    }
+    let length = medium.take(&mut place);
+    answered(heap, length.map(|n| PlacedBurst { bytes: &place[..n] }))
 }

@@ -1,18 +1,20 @@
 // What a medium is made of.
 ghost use Rattle.std.specs.Prelude.{◌≡◌};
+ghost use Rattle.std.specs.Option.{ok_or};
+ghost use Rattle.script_words.specs.declared.fault.Fault.TheVariants as fault;
 ghost use Rattle.medium_script.specs.Specs.{base, spec};
 
 use notation::hex::pattern;
 use notation::number::size;
 use notation::words::split;
-use script_words::words::is;
+use script_words::fault::Fault;
 
 // The most bursts of a queue, and the most bytes of a packed medium.
 const PLACES: u32 = 4096;
 
 const BYTES: u32 = 65536;
 
-#[derive(Clone, Copy)]
+#[derive(Clone, Copy, Debug, PartialEq, Eq)]
 pub enum Base {
     Queue { places: usize },
     Packed { bytes: usize },
@@ -20,47 +22,58 @@ pub enum Base {
 }
 
 // A medium, under a layer of loss where it has a pattern of loss.
-#[derive(Clone, Copy)]
+#[derive(Clone, Copy, Debug, PartialEq, Eq)]
 pub struct Spec {
     pub loss: Option<u32>,
     pub base: Base,
 }
 
-// SPEC
-pub(crate) fn spec_of(word: &[u8]) -> Option<Spec>
+impl<'a> TryFrom<&'a [u8]> for Spec {
+    type Error = Fault;
+
+    ghost try_from_gives = { λ w r. r ≡ ok_or (spec w.now) fault.Spec };
+
+    fn try_from(word: &'a [u8]) -> Result<Self, Fault> {
+        spec_of(word).ok_or(Fault::Spec)
+    }
+}
+
+fn spec_of(word: &[u8]) -> Option<Spec>
     ensures { result ≡ spec word.now }
 {
-    let (kind, rest) = split(word, b':');
-    if !is(kind, "lossy") {
-        let base = base_of(word)?;
-        return Some(Spec { loss: None, base });
+    match split(word, b':') {
+        (b"lossy", rest) => {
+            let (loss, below) = split(rest, b'/');
+            Some(Spec {
+                loss: Some(pattern(loss)?),
+                base: base_of(below)?,
+            })
+        }
+        _ => Some(Spec {
+            loss: None,
+            base: base_of(word)?,
+        }),
     }
-    let (loss, below) = split(rest, b'/');
-    let loss = pattern(loss)?;
-    let base = base_of(below)?;
-    Some(Spec {
-        loss: Some(loss),
-        base,
-    })
 }
 
 // A SPEC without loss.
 fn base_of(word: &[u8]) -> Option<Base>
     ensures { result ≡ base word.now }
 {
-    let (kind, numbers) = split(word, b':');
-    if is(kind, "queue") {
-        let places = size(numbers, PLACES)?;
-        Some(Base::Queue { places })
-    } else if is(kind, "packed") {
-        let bytes = size(numbers, BYTES)?;
-        Some(Base::Packed { bytes })
-    } else if is(kind, "noisy") {
-        let (places, bits) = split(numbers, b':');
-        let places = size(places, PLACES)?;
-        let pattern = pattern(bits)?;
-        Some(Base::Noisy { places, pattern })
-    } else {
-        None
+    match split(word, b':') {
+        (b"queue", places) => Some(Base::Queue {
+            places: size(places, PLACES)?,
+        }),
+        (b"packed", bytes) => Some(Base::Packed {
+            bytes: size(bytes, BYTES)?,
+        }),
+        (b"noisy", numbers) => {
+            let (places, bits) = split(numbers, b':');
+            Some(Base::Noisy {
+                places: size(places, PLACES)?,
+                pattern: pattern(bits)?,
+            })
+        }
+        _ => None,
     }
 }

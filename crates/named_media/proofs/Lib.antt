@@ -1,3 +1,2 @@
 mod Layers
 mod Offers
-mod Places

@@ -1,3 +1,3 @@
+pub mod Holding
 pub mod Media
 pub mod Model
-pub mod Starts

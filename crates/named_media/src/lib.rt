@@ -1,5 +1,5 @@
 // The media of a workbench, each by its name.
 #![tactic(auto)]
 
+pub mod holds;
 pub mod media;
-mod restart;

@@ -1,14 +1,15 @@
 // A medium of a workbench.
 ghost use Rattle.std.specs.Prelude.{◌≡◌, ◌≤◌, length, None};
 ghost use Rattle.std.specs.Option.{option_map, unwrap_or};
-ghost use Rattle.medium.specs.Bursts.{first, some_letter};
-ghost use Rattle.medium.specs.Letters.{command, answer};
+ghost use Rattle.medium.specs.Bursts.{first};
 ghost use Rattle.ring.specs.Ring.{memory};
+ghost use Rattle.named_media.specs.Holding.{holding};
 ghost use Rattle.named_media.specs.Media.{named_by, under_way, offer_answer, made_by, offered_to, taken_from, taken_to};
 ghost use Rattle.named_media.specs.Model.{model};
 
-use crate::restart::start;
+use crate::holds::Holds;
 use medium::burst::Burst;
+use medium::class::Class;
 use medium::offer::Offer;
 use medium::queue::QueueMedium;
 use medium::{LONGEST, Medium};
@@ -18,8 +19,7 @@ use noise::noisy::NoisyMedium;
 use packing::packed::PackedMedium;
 
 #[derive(Clone, Copy)]
-pub enum Made {
-    Nothing,
+pub enum MediumKind {
     Queue,
     Packed,
     Noisy,
@@ -29,7 +29,7 @@ pub enum Made {
 // nothing is one whose pattern of loss has no bit.
 #[derive(Drop)]
 pub struct NamedMedium<'a, 'p> {
-    made: Made,
+    made: Option<MediumKind>,
     queue: LossyMedium<QueueMedium<'a>>,
     packed: LossyMedium<&'p mut PackedMedium<'a>>,
     noisy: LossyMedium<NoisyMedium<'a>>,
@@ -45,7 +45,7 @@ impl<'a, 'p> NamedMedium<'a, 'p> {
         ensures { model result ≡ named_by None (length queue.old) (length (memory packed.old.ring)) (length noisy.old) }
     {
         NamedMedium {
-            made: Made::Nothing,
+            made: None,
             queue: LossyMedium::over(QueueMedium::over(queue), 0),
             packed: LossyMedium::over(packed, 0),
             noisy: LossyMedium::over(NoisyMedium::over(noisy, 0), 0),
@@ -59,34 +59,36 @@ impl<'a, 'p> NamedMedium<'a, 'p> {
         let loss = spec.loss.unwrap_or(0);
         match spec.base {
             Base::Queue { places } => {
-                self.made = Made::Queue;
+                self.made = Some(MediumKind::Queue);
                 self.queue.medium.restart(places);
                 self.queue.restart(loss);
             }
             Base::Packed { bytes } => {
-                self.made = Made::Packed;
-                start(&mut self.packed.medium, bytes);
+                self.made = Some(MediumKind::Packed);
+                self.packed.medium.restart(bytes);
                 self.packed.restart(loss);
             }
             Base::Noisy { places, pattern } => {
-                self.made = Made::Noisy;
+                self.made = Some(MediumKind::Noisy);
                 self.noisy.medium.restart(places, pattern);
                 self.noisy.restart(loss);
             }
         }
     }
 
+    // Each call is a match of three types of media: through one `&mut dyn Medium` nothing would be known of places, patterns
+    // and counts.
+
     // Offers a burst; none where no medium is made.
     pub fn offer(&mut self, burst: &[u8]) -> Option<Offer>
         ensures answer { result ≡ offer_answer burst.now (model self.old) }
         ensures after { model self.new ≡ offered_to burst.now (model self.old) }
     {
-        match self.made {
-            Made::Nothing => None,
-            Made::Queue => Some(self.queue.offer(burst)),
-            Made::Packed => Some(self.packed.offer(burst)),
-            Made::Noisy => Some(self.noisy.offer(burst)),
-        }
+        Some(match self.made? {
+            MediumKind::Queue => self.queue.offer(burst),
+            MediumKind::Packed => self.packed.offer(burst),
+            MediumKind::Noisy => self.noisy.offer(burst),
+        })
     }
 
     // Takes the oldest burst to the start of the place, and tells its length.
@@ -96,36 +98,43 @@ impl<'a, 'p> NamedMedium<'a, 'p> {
         ensures place { place.new ≡ taken_to (under_way (model self.old)) place.old }
         ensures after { model self.new ≡ taken_from (model self.old) }
     {
-        match self.made {
-            Made::Nothing => None,
-            Made::Queue => Some(self.queue.take(place)),
-            Made::Packed => Some(self.packed.take(place)),
-            Made::Noisy => Some(self.noisy.take(place)),
-        }
+        Some(match self.made? {
+            MediumKind::Queue => self.queue.take(place),
+            MediumKind::Packed => self.packed.take(place),
+            MediumKind::Noisy => self.noisy.take(place),
+        })
     }
 
     // How many bursts are under way.
     pub fn count(&self) -> Option<usize>
         ensures { result ≡ option_map length (under_way (model self.now)) }
     {
-        match self.made {
-            Made::Nothing => None,
-            Made::Queue => Some(self.queue.count()),
-            Made::Packed => Some(self.packed.count()),
-            Made::Noisy => Some(self.noisy.count()),
-        }
+        Some(match self.made? {
+            MediumKind::Queue => self.queue.count(),
+            MediumKind::Packed => self.packed.count(),
+            MediumKind::Noisy => self.noisy.count(),
+        })
     }
 
     // Whether commands and whether answers are under way.
-    pub fn holds(&self) -> Option<(bool, bool)>
-        ensures { result ≡ option_map (λ bs. (some_letter command bs, some_letter answer bs)) (under_way (model self.now)) }
+    pub fn holds(&self) -> Option<Holds>
+        ensures { result ≡ option_map holding (under_way (model self.now)) }
     {
-        match self.made {
-            Made::Nothing => None,
-            Made::Queue => Some((self.queue.holds_commands(), self.queue.holds_answers())),
-            Made::Packed => Some((self.packed.holds_commands(), self.packed.holds_answers())),
-            Made::Noisy => Some((self.noisy.holds_commands(), self.noisy.holds_answers())),
-        }
+        Some(match self.made? {
+            MediumKind::Queue => holds_of(&self.queue),
+            MediumKind::Packed => holds_of(&self.packed),
+            MediumKind::Noisy => holds_of(&self.noisy),
+        })
+    }
+}
+
+// Whether commands and whether answers are under way in a medium of any kind.
+fn holds_of<M: Medium>(medium: &M) -> Holds
+    ensures { result ≡ holding (M.bursts medium.now) }
+{
+    Holds {
+        commands: medium.holds(Class::Command),
+        answers: medium.holds(Class::Answer),
     }
 }
 

@@ -1,4 +1,3 @@
-mod Every
 mod Pairs
 mod Patterns
 mod Sizes

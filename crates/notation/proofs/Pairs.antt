@@ -1,11 +1,13 @@
 -- Pairs of hexadecimal digits, read one after another. Assumes nothing.
-use Rattle.std.proofs.Common.{◌≡◌, ℕ, suc, ◌+◌, ◌-◌, ◌/◌, ◌%◌, ◌<◌, ◌≤◌, true, false, eqb, List, [], ◌∷◌, ◌++◌, length, get_or, take, drop, Some, unwrap_or, sym, refl, ap, ◌∙◌, append_assoc, arith}
-use Rattle.std.proofs.lemmas.List.{at_drop_more, take_rest}
-use Rattle.std.proofs.lemmas.Bool.{false≢true, and_right, eqb-true, ne_eqb}
+use Rattle.std.proofs.Common.{◌≡◌, ℕ, suc, ◌+◌, ◌-◌, ◌/◌, ◌%◌, ◌^◌, ◌<◌, ◌≤◌, true, false, eqb, List, [], ◌∷◌, ◌++◌, length, get_or, take, drop, Some, unwrap_or, sym, refl, ap, ◌∙◌, append_assoc, arith}
+use Rattle.std.proofs.lemmas.List.{flat_map_more, take_more, take_rest}
+use Rattle.std.proofs.lemmas.Bool.{and_right, ne_eqb}
 use Rattle.std.specs.Str.{bytes_eq}
 use Rattle.std.proofs.lemmas.Bool.Decides.{nat_tests}
-use Rattle.notation.specs.Bytes.{every}
-use Rattle.notation.specs.Hex.{digit, is_digit, are_pairs, decoded, byte, figure, pairs, hex, unhex}
+use Rattle.std.specs.List.{list_all}
+use Rattle.std.proofs.lemmas.Fmt.{hex_byte}
+use Rattle.std.specs.Fmt.{padded_integral, format_spec, digits, digit_glyph}
+use Rattle.notation.specs.Hex.{pair, digit, is_digit, are_pairs, decoded, byte, figure, pairs, hex, unhex}
 
 two_first : (xs : List ℕ) → 2 ≤ length xs → xs ≡ get_or xs 0 0 ∷ get_or xs 1 0 ∷ drop 2 xs
 two_first [] h = absurd (omega arith)
@@ -24,20 +26,19 @@ digit_small c = grind (arith, nat_tests)
 pub figure_read : (n : ℕ) → n < 16 → digit (figure n) ≡ Some n
 figure_read n h = grind (arith, nat_tests)
 
-pub figure_ascii : (n : ℕ) → n < 16 → figure n < 128
-figure_ascii n h = grind (arith, nat_tests)
-
 -- one more byte is printed
-pub pairs_more : (front xs all : List ℕ) (i : ℕ) → i < length xs → front ++ pairs (drop i xs) ≡ all → ((front ++ figure (get_or xs i 0 / 16) ∷ []) ++ figure (get_or xs i 0 % 16) ∷ []) ++ pairs (drop (i + 1) xs) ≡ all
-pairs_more front xs all i h e = simp append_assoc (ap (λ l. front ++ l) (sym (at_drop_more pairs xs i 0 h)) ∙ e)
+pub pairs_more : (xs : List ℕ) (i : ℕ) → i < length xs → pairs (take i xs) ++ pair (get_or xs i 0) ≡ pairs (take (i + 1) xs)
+pairs_more xs i h = rw (take_more xs i 0 h) (flat_map_more pair [] (take i xs) (get_or xs i 0))
 
-pub hex_none : (xs : List ℕ) → true ≡ eqb (length xs) 0 → 0x2d ∷ [] ≡ hex xs
-hex_none [] h = refl
-hex_none (x ∷ xs) h = absurd (omega (arith, eqb-true (suc (length xs)) 0 (sym h)))
+glyph_is : (n : ℕ) → n < 16 → digit_glyph true n ≡ figure n
+glyph_is n h = grind (arith, nat_tests)
 
-pub hex_some : (xs : List ℕ) → false ≡ eqb (length xs) 0 → pairs xs ≡ hex xs
-hex_some [] h = absurd (false≢true h)
-hex_some (x ∷ xs) h = refl
+-- what `{:02X}` writes of a byte
+pub pair_shown : (b : ℕ) → b < 256 → padded_integral (format_spec 32 0 4 2 (2 ^ 64 - 1)) false [] (digits 16 true b) ≡ pair b
+pair_shown b h =
+    let high = glyph_is (b / 16) (omega arith) in
+    let low = glyph_is (b % 16) (omega arith) in
+    hex_byte true b h ∙ rw (high, low) refl
 
 abbrev pub Bytes : List ℕ → Type 0
 Bytes xs = (i : ℕ) → get_or xs i 0 < 256
@@ -52,7 +53,7 @@ pairs_decoded : (xs : List ℕ) → Bytes xs → decoded (pairs xs) ≡ xs
 pairs_decoded [] h = refl
 pairs_decoded (x ∷ xs) h = λ i. halves x (h 0) i ∷ pairs_decoded xs (λ k. h (suc k)) i
 
-pairs_digits : (xs : List ℕ) → Bytes xs → every is_digit (pairs xs) ≡ true
+pairs_digits : (xs : List ℕ) → Bytes xs → list_all is_digit (pairs xs) ≡ true
 pairs_digits [] h = refl
 pairs_digits (x ∷ xs) h =
     let small : x < 256 = h 0 in
@@ -73,10 +74,7 @@ pairs_fit x xs h =
     rw (pairs_digits (x ∷ xs) h, ne_eqb (length (pairs (x ∷ xs))) 0 some, pairs_even (x ∷ xs))
 
 -- what is printed reads back
-hex_read : (xs : List ℕ) → Bytes xs → unhex (hex xs) ≡ Some xs
+pub hex_read : (xs : List ℕ) → Bytes xs → unhex (hex xs) ≡ Some xs
 hex_read [] h = refl
 hex_read (x ∷ xs) h =
     rw (no_dash (figure (x / 16)) (figure (x % 16)) (pairs xs), pairs_fit x xs h) (ap (λ l. Some l) (pairs_decoded (x ∷ xs) h))
-
-pub reads_back : (text xs : List ℕ) → Bytes xs → text ≡ hex xs → unhex text ≡ Some xs
-reads_back text xs h e = ap unhex e ∙ hex_read xs h

@@ -1,27 +1,16 @@
 -- Hexadecimal digits, read one after another into 32 bits. Assumes nothing.
-use Rattle.std.proofs.Common.{◌≡◌, ℕ, zero, suc, ◌+◌, ◌-◌, ◌*◌, ◌^◌, ◌<◌, ◌≤◌, true, false, not, ◌&&◌, eqb, leb, List, length, get_or, take, Some, None, unwrap_or, sym, ap, ◌∙◌, arith}
+use Rattle.std.proofs.Common.{◌≡◌, ℕ, ◌+◌, ◌*◌, ◌^◌, ◌<◌, ◌≤◌, true, false, eqb, List, length, get_or, take, is_some, Some, None, unwrap_or, refl, ap, arith}
+use Rattle.std.specs.List.{list_all}
+use Rattle.std.proofs.Math.Nat.{pow-le-pow_right}
 use Rattle.std.proofs.lemmas.Nat.{pow-add}
+use Rattle.std.proofs.lemmas.Bool.Decides.{nat_tests}
+use Rattle.std.proofs.lemmas.List.Folds.{list_all_at}
 use Rattle.std.proofs.lemmas.List.Sums.{fold_more}
-use Rattle.std.proofs.lemmas.Bool.{and_left, and_right, and_from, cond-true, cond-false, le-leb, lt-leb, not_from_true}
-use Rattle.notation.specs.Bytes.{every}
 use Rattle.notation.specs.Hex.{digit, is_digit, value, pattern}
-
-plus_one : (i j : ℕ) → i + suc j ≡ (i + j) + 1
-plus_one i j = omega arith
-
-power_grows : (i j : ℕ) → 16 ^ i ≤ 16 ^ (i + j)
-power_grows i zero = let e : 16 ^ (i + 0) ≡ 16 ^ i = pow-add 16 i 0 ∙ omega arith in omega arith
-power_grows i (suc j) =
-    let h = power_grows i j in
-    let e : 16 ^ (i + suc j) ≡ 16 ^ (i + j) * 16 = ap (λ k. 16 ^ k) (plus_one i j) ∙ pow-add 16 (i + j) 1 in
-    omega arith
 
 -- what fewer than eight digits write leaves room for one more
 pub room_for_digit : (i n : ℕ) → i < 8 → n < 16 ^ i → n < 268435456
-room_for_digit i n h s =
-    let seven : i + (7 - i) ≡ 7 = omega arith in
-    let top : 16 ^ (i + (7 - i)) ≡ 268435456 = ap (λ k. 16 ^ k) seven in
-    omega (arith, power_grows i (7 - i))
+room_for_digit i n h s = let top : 16 ^ i ≤ 16 ^ 7 = pow-le-pow_right {n = 16} (omega arith) {i = i} {j = 7} (omega arith) in omega arith
 
 pub power_more : (i n d : ℕ) → n < 16 ^ i → d < 16 → n * 16 + d < 16 ^ (i + 1)
 power_more i n d h s = let p = pow-add 16 i 1 in omega arith
@@ -33,14 +22,8 @@ module _ (word : List ℕ) where
       let one : unwrap_or (digit (get_or word i 0)) 0 ≡ d = ap (λ o. unwrap_or o 0) s in
       omega arith
 
-  pub no_digit : every is_digit word ≡ false → None ≡ pattern word
-  no_digit e = sym (cond-false _ (Some (value word)) None (and_left _ (not (eqb (length word) 0) && leb (length word) 8) e))
+  pub no_digit : (i : ℕ) → i < length word → digit (get_or word i 0) ≡ None → None ≡ pattern word
+  no_digit i h t = rw (list_all_at is_digit word i 0 h (ap is_some t)) refl
 
-  pub no_word : eqb (length word) 0 ≡ true → None ≡ pattern word
-  no_word e = sym (cond-false _ (Some (value word)) None (and_right (every is_digit word) _ (and_left _ (leb (length word) 8) (not_from_true _ e))))
-
-  pub too_long : 8 < length word → None ≡ pattern word
-  too_long h = sym (cond-false _ (Some (value word)) None (and_right (every is_digit word) _ (and_right (not (eqb (length word) 0)) _ (lt-leb (length word) 8 h))))
-
-  pub is_pattern : every is_digit word ≡ true → not (eqb (length word) 0) ≡ true → length word ≤ 8 → Some (value word) ≡ pattern word
-  is_pattern a b h = sym (cond-true _ (Some (value word)) None (and_from _ _ a (and_from _ _ b (le-leb (length word) 8 h))))
+  pub is_pattern : (n : ℕ) → list_all is_digit word ≡ true → eqb (length word) 0 ≡ false → length word ≤ 8 → n ≡ value word → Some n ≡ pattern word
+  is_pattern n digits some short e = rw (digits, e) (grind (arith, nat_tests))

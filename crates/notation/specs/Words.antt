@@ -1,5 +1,5 @@
 -- A line and its words. Assumes nothing.
-use Rattle.std.specs.Prelude.{ℕ, Bool, not, List, take, drop, ◌==◌}
+use Rattle.std.specs.Prelude.{ℕ, Bool, cond, not, List, length, take, drop, Some, None, Option, ◌==◌}
 use Rattle.std.specs.List.{prefix_len}
 
 abbrev pub is_space : ℕ → Bool
@@ -27,6 +27,10 @@ trimmed line = drop (prefix_len is_space line) line
 -- a line's first word, with no bytes where there is none
 abbrev pub word : List ℕ → List ℕ
 word line = before 0x20 (trimmed line)
+
+-- the same, or none
+abbrev pub first_word : List ℕ → Option (List ℕ)
+first_word line = cond (length (word line) == 0) None (Some (word line))
 
 -- what follows that word
 abbrev pub left : List ℕ → List ℕ

@@ -1,8 +1,10 @@
 // Bytes in hexadecimal.
 ghost use Rattle.std.specs.Prelude.{◌≡◌, ◌<◌, true, IfOk, Some, string_bytes};
-ghost use Rattle.notation.specs.Hex.{digit, byte, are_pairs, decoded, pattern, figure, hex, unhex};
+ghost use Rattle.std.specs.List.{list_all};
+ghost use Rattle.notation.specs.Hex.{digit, is_digit, byte, are_pairs, decoded, pattern, figure, hex, unhex};
 
 use std::alloc::{AllocError, Global};
+use std::fmt;
 
 // The value of a hexadecimal digit of either case.
 fn digit(c: u8) -> Option<u8>
@@ -23,16 +25,17 @@ pub fn byte(high: u8, low: u8) -> u8
     digit(high).unwrap_or(0) * 16 + digit(low).unwrap_or(0)
 }
 
+fn are_digits(word: &[u8]) -> bool
+    ensures { result ≡ list_all is_digit word.now }
+{
+    word.iter().all(|c| digit(*c).is_some())
+}
+
 // Whether a word is one or more pairs of hexadecimal digits.
 pub fn are_pairs(word: &[u8]) -> bool
     ensures { result ≡ are_pairs word.now }
 {
-    for c in word {
-        if digit(*c).is_none() {
-            return false;
-        }
-    }
-    !word.is_empty() && word.len() % 2 == 0
+    are_digits(word) && !word.is_empty() && word.len() % 2 == 0
 }
 
 // The bytes that pairs of digits stand for.
@@ -57,37 +60,37 @@ pub fn pattern(word: &[u8]) -> Option<u32>
     }
     let mut bits = 0u32;
     for c in word {
-        match digit(*c) {
-            Some(value) => bits = bits * 16 + u32::from(value),
-            None => return None,
-        }
+        bits = bits * 16 + u32::from(digit(*c)?);
     }
     Some(bits)
 }
 
-// The upper-case digit of a value below 16.
-fn figure(n: u8) -> char
-    requires { n < 16 }
-    ensures { result ≡ figure n }
-{
-    match n {
-        0..=9 => (b'0' + n) as char,
-        _ => (b'A' + (n - 10)) as char,
+// Bytes to be printed as pairs of upper-case digits, and as `-` where there are none.
+#[derive(Clone, Copy)]
+pub struct Hex<'a> {
+    bytes: &'a [u8],
+}
+
+impl<'a> Hex<'a> {
+    // What is printed, read as a word, stands for the same bytes.
+    pub fn of(bytes: &'a [u8]) -> Self
+        ensures value { result.bytes.now ≡ bytes.now }
+        ensures back { unhex (hex result.bytes.now) ≡ Some bytes.now }
+    {
+        Hex { bytes }
     }
 }
 
-// What is printed for bytes. Read as a word, it stands for the same bytes.
-pub fn hex(heap: Global, bytes: &[u8]) -> Result<String, AllocError>
-    ensures text { IfOk result (λ s. string_bytes s ≡ hex bytes.now) }
-    ensures back { IfOk result (λ s. unhex (string_bytes s) ≡ Some bytes.now) }
-{
-    if bytes.is_empty() {
-        return String::from_str(heap, "-");
+impl fmt::Display for Hex<'_> {
+    ghost output = { λ h. Some (hex h.bytes.now) };
+
+    fn fmt<W: fmt::Write>(&self, f: &mut fmt::Formatter<W>) -> fmt::Result {
+        if self.bytes.is_empty() {
+            return f.write_str("-");
+        }
+        for &b in self.bytes {
+            write!(f, "{b:02X}")?;
+        }
+        Ok(())
     }
-    let mut text = String::new(heap);
-    for b in bytes {
-        text.push(figure(*b / 16))?;
-        text.push(figure(*b % 16))?;
-    }
-    Ok(text)
 }

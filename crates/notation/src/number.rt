@@ -6,17 +6,13 @@ ghost use Rattle.notation.specs.Numbers.{size};
 pub fn size(word: &[u8], largest: u32) -> Option<usize>
     ensures { result ≡ size largest word.now }
 {
-    let largest = largest as usize;
     let mut n = 0usize;
     for c in word {
         if !c.is_ascii_digit() {
             return None;
         }
-        // What is past the largest number stays past it.
-        n = (n * 10 + usize::from(*c - b'0')).min(largest + 1);
+        // A number too large for `usize` stays past the largest one.
+        n = n.saturating_mul(10).saturating_add(usize::from(*c - b'0'));
     }
-    if word.is_empty() || n > largest {
-        return None;
-    }
-    Some(n)
+    (!word.is_empty() && n <= largest as usize).then_some(n)
 }

@@ -1,19 +1,15 @@
 // A line and its words, the longest runs of bytes other than the space.
 ghost use Rattle.std.specs.Prelude.{◌≡◌, ◌≤◌, length};
 ghost use Rattle.std.specs.List.{prefix_len};
-ghost use Rattle.notation.specs.Words.{is_space, is_other, before, after, without_end, trimmed, word, left};
+ghost use Rattle.std.specs.Option.{option_copied};
+ghost use Rattle.notation.specs.Words.{is_space, is_other, before, after, without_end, trimmed, first_word, left};
 
 // How many spaces stand at the front.
 fn spaces(line: &[u8]) -> usize
     ensures value { result ≡ prefix_len is_space line.now }
     ensures within { result ≤ length line.now }
 {
-    for (i, b) in line.iter().enumerate() {
-        if *b != b' ' {
-            return i;
-        }
-    }
-    line.len()
+    line.iter().take_while(|b| **b == b' ').count()
 }
 
 // How many bytes stand before the first `stop`.
@@ -21,12 +17,7 @@ pub fn length_before(bytes: &[u8], stop: u8) -> usize
     ensures value { result ≡ prefix_len (is_other stop) bytes.now }
     ensures within { result ≤ length bytes.now }
 {
-    for (i, b) in bytes.iter().enumerate() {
-        if *b == stop {
-            return i;
-        }
-    }
-    bytes.len()
+    bytes.iter().take_while(|b| **b != stop).count()
 }
 
 // What stands before the first `stop`, and what follows it: no bytes where there is none.
@@ -58,10 +49,11 @@ pub fn trimmed(line: &[u8]) -> &[u8]
     rest
 }
 
-// The first word, with no bytes where there is none, and what follows it.
-pub fn split_word(line: &[u8]) -> (&[u8], &[u8])
-    ensures word { result.0.now ≡ word line.now }
+// The first word, and what follows it.
+pub fn split_word(line: &[u8]) -> (Option<&[u8]>, &[u8])
+    ensures word { option_copied result.0 ≡ first_word line.now }
     ensures left { result.1.now ≡ left line.now }
 {
-    split(trimmed(line), b' ')
+    let (word, left) = split(trimmed(line), b' ');
+    ((!word.is_empty()).then_some(word), left)
 }

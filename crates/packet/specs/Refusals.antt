@@ -34,7 +34,7 @@ number_of StillUnderWay = 27
 number_of MediumInUse = 28
 number_of BufferTooShort = 29
 
--- what a call answers: a refusal's number, or a value
+-- What a call answers: a refusal's number, or a value. No Result of the code: definitions name a refusal by its number alone.
 pub data Answer (A : Type 0) : Type 0 where
   refused : ℕ → Answer A
   gave : A → Answer A

@@ -12,7 +12,8 @@ pub trait Check {
     // The check bytes of each string of covered bytes.
     ghost meaning: { List ℕ → List ℕ };
 
-    // The check bytes of `covered` come first in the answer, then zeros.
+    // The check bytes of `covered` come first in the answer, then zeros. Five always: no array has an associated constant for
+    // its length.
     fn check(covered: &[u8]) -> [u8; 5]
         ensures { result ≡ padded LEN (meaning covered.now) };
 

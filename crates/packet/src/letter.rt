@@ -92,13 +92,13 @@ impl Letter {
     }
 }
 
-// Whether each byte lies from `low` to `high`. No early exit, as `all` has one, so that the loop vectorises.
+// Whether each byte lies from `low` to `high`. Not `all`, which leaves early: without an exit the loop vectorises.
 pub fn all_between(low: u8, high: u8, bytes: &[u8]) -> bool
     ensures { result ≡ each_between low high bytes.now }
 {
     let mut bad = false;
     for b in bytes {
-        bad = bad | (*b < low) | (*b > high);
+        bad |= (*b < low) | (*b > high);
     }
     !bad
 }

@@ -2,6 +2,7 @@
 ghost use Rattle.std.specs.Prelude.{◌≡◌, ◌++◌, Some, codes, decimal};
 ghost use Rattle.packet.specs.Refusals.{number_of};
 
+use std::error::Error;
 use std::fmt;
 
 #[derive(Clone, Copy, Debug, PartialEq, Eq)]
@@ -44,6 +45,8 @@ impl From<Refusal> for u8 {
         refusal as u8
     }
 }
+
+impl Error for Refusal {}
 
 impl fmt::Display for Refusal {
     ghost output = { λ refusal. Some (codes "refused " ++ decimal (number_of refusal)) };

@@ -27,6 +27,7 @@ impl Check for Sum {
     ghost tells = { sum_tells };
 
     fn check(covered: &[u8]) -> [u8; 5] {
+        // Each kind has a loop of its own over the covered bytes: a rule of the project.
         let mut sum = 0u8;
         for b in covered {
             sum = sum.wrapping_add(*b);

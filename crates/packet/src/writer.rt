@@ -18,6 +18,7 @@ pub fn write<K: Check>(letter: u8, field: &[u8], out: &mut [u8]) -> Result<usize
     put_packet::<K>(letter, field, out)
 }
 
+// What `write` does. Apart from it, so that the law is proved at one return, from these two equations.
 fn put_packet<K: Check>(letter: u8, field: &[u8], out: &mut [u8]) -> Result<usize, Refusal>
     ensures value { answer (λ n. n) result ≡ writing K.LEN letter field.now (length out.old) }
     ensures after { out.new ≡ after_writing (answer (λ n. n) result) (packet K.meaning letter field.now) out.old }

@@ -1,10 +1,12 @@
 // What is printed for a packet call.
 ghost use Rattle.std.specs.Prelude.{◌≡◌, IfOk, string_bytes};
 ghost use Rattle.packet.specs.Format.{packet, reading, writing};
+ghost use Rattle.answers.specs.Lines.{burst_line};
 ghost use Rattle.packet_bench.specs.Printed.{read_line, write_line, printed};
 ghost use Rattle.packet_script.specs.Told.{call_of};
 
 use crate::answer;
+use answers::print::PlacedBurst;
 use answers::{print, values};
 use packet::checks::Check;
 use packet::reader::read;
@@ -42,12 +44,20 @@ pub fn run(heap: Global, call: PacketCall<'_>) -> Result<String, AllocError>
 }
 
 fn read_burst<K: Check>(heap: Global, burst: &[u8]) -> Result<String, AllocError>
-    ensures { IfOk result (λ s. string_bytes s ≡ read_line (reading K.size K.meaning burst.now)) }
+    ensures { IfOk result (λ s. string_bytes s ≡ read_line (reading K.LEN K.meaning burst.now)) }
 {
     match read::<K>(burst) {
         Ok(packet) => answer::read(heap, packet),
         Err(why) => print::refused(heap, why),
     }
+}
+
+// A packet that was written.
+fn written(heap: Global, burst: &[u8]) -> Result<String, AllocError>
+    ensures { IfOk result (λ s. string_bytes s ≡ burst_line burst.now) }
+{
+    let burst = PlacedBurst { bytes: burst };
+    format!(in heap; "{burst}\n")
 }
 
 fn write_packet<K: Check>(
@@ -56,11 +66,11 @@ fn write_packet<K: Check>(
     field: &[u8],
     length: usize,
 ) -> Result<String, AllocError>
-    ensures { IfOk result (λ s. string_bytes s ≡ write_line (writing K.size letter field.now length) (packet K.meaning letter field.now)) }
+    ensures { IfOk result (λ s. string_bytes s ≡ write_line (writing K.LEN letter field.now length) (packet K.meaning letter field.now)) }
 {
     let mut place = values::place(heap, length)?;
     match write::<K>(letter, field, &mut place) {
-        Ok(end) => print::burst(heap, &place[0..end]),
+        Ok(end) => written(heap, &place[0..end]),
         Err(why) => print::refused(heap, why),
     }
 }

@@ -9,7 +9,7 @@ ghost use Rattle.packet_script.specs.Told.{call_of};
 use notation::hex::{are_pairs, byte};
 use script_words::arguments::Arguments;
 use script_words::fault::Fault;
-use script_words::words::{Bytes, Kind, is};
+use script_words::words::{Bytes, Kind};
 
 // The size of a place where a line leaves it out.
 const PLACE: usize = 104;
@@ -32,13 +32,10 @@ pub enum PacketCall<'a> {
 pub fn parse(mut words: Arguments<'_>) -> Result<PacketCall<'_>, Fault>
     ensures { asked call_of result ≡ packet_call words.entry.rest.now }
 {
-    let call = words.due()?;
-    if is(call, "read") {
-        read_call(words)
-    } else if is(call, "write") {
-        write_call(words)
-    } else {
-        Err(Fault::UnknownCommand)
+    match words.due()? {
+        b"read" => read_call(words),
+        b"write" => write_call(words),
+        _ => Err(Fault::UnknownCommand),
     }
 }
 
@@ -70,10 +67,8 @@ fn write_call(mut words: Arguments<'_>) -> Result<PacketCall<'_>, Fault>
 fn letter(words: &mut Arguments<'_>) -> Result<u8, Fault>
     ensures { told (λ l. l) result words.new.rest.now ≡ argument letter fault.Letter words.old.rest.now }
 {
-    let word = words.due()?;
-    if word.len() == 2 && are_pairs(word) {
-        Ok(byte(word[0], word[1]))
-    } else {
-        Err(Fault::Letter)
+    match words.due()? {
+        word @ [high, low] if are_pairs(word) => Ok(byte(*high, *low)),
+        _ => Err(Fault::Letter),
     }
 }

@@ -1,7 +1,4 @@
-// What a line of a workbench script asks for.
+// What a line of a workbench script of packets and media asks for.
 #![tactic(auto)]
 
-mod arguments;
 pub mod command;
-pub mod fault;
-pub mod media;

@@ -1,5 +1,5 @@
 -- The arguments of a line. Assumes nothing.
-use Rattle.std.specs.Prelude.{ℕ, Bool, cond, List, [], length, drop, Some, None, Ok, Err, codes, Option, Result, ◌==◌, slice_index}
+use Rattle.std.specs.Prelude.{ℕ, Bool, cond, ◌||◌, List, [], length, drop, Some, None, Ok, Err, codes, Option, Result, ◌==◌, slice_index}
 use Rattle.std.specs.Option.{option_map, ok_or}
 use Rattle.std.specs.Str.{bytes_eq}
 use Rattle.notation.specs.Hex.{unhex}
@@ -12,6 +12,14 @@ use Rattle.script_words.specs.declared.fault.Fault.TheVariants as fault
 
 abbrev pub is_empty : List ℕ → Bool
 is_empty bs = length bs == 0
+
+-- a line of spaces alone, or a comment
+abbrev pub is_blank : List ℕ → Bool
+is_blank line = is_empty (trimmed line) || slice_index line 0 == 0x23
+
+-- a line that asks for something
+abbrev pub asking : List ℕ → Option (List ℕ)
+asking line = cond (is_blank line) None (Some line)
 
 infixr 10 ◌then◌
 -- a part of a line with what follows it, and then the next part, unless the first is wrong

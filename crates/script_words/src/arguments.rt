@@ -1,14 +1,14 @@
 // The arguments of a command, read from the left.
 ghost use Rattle.std.specs.Prelude.{◌≡◌};
-ghost use Rattle.std.specs.Option.{option_map};
+ghost use Rattle.std.specs.Option.{option_copied, option_map};
 ghost use Rattle.notation.specs.Hex.{unhex};
-ghost use Rattle.notation.specs.Words.{word, left};
-ghost use Rattle.script_words.specs.Arguments.{due, argument, kind, bytes, size_or, ended};
+ghost use Rattle.notation.specs.Words.{first_word, left};
+ghost use Rattle.script_words.specs.Arguments.{asking, due, argument, kind, bytes, size_or, ended};
 ghost use Rattle.script_words.specs.Told.{told, bytes_of};
 ghost use Rattle.script_words.specs.declared.fault.Fault.TheVariants as fault;
 
 use crate::fault::Fault;
-use crate::words::{Bytes, Kind, is};
+use crate::words::{Bytes, Kind};
 use notation::hex::are_pairs;
 use notation::number::size;
 use notation::words::{split_word, trimmed};
@@ -25,19 +25,26 @@ pub struct Arguments<'a> {
 fn in_hex(word: &[u8]) -> Option<Bytes<'_>>
     ensures { option_map bytes_of result ≡ unhex word.now }
 {
-    if is(word, "-") {
-        Some(Bytes::Pairs(&[]))
-    } else if are_pairs(word) {
-        Some(Bytes::Pairs(word))
-    } else {
-        None
+    match word {
+        b"-" => Some(Bytes::Pairs(&[])),
+        _ => are_pairs(word).then_some(Bytes::Pairs(word)),
     }
 }
 
 impl<'a> Arguments<'a> {
-    // The next word, with no bytes where none is left.
-    pub fn take_word(&mut self) -> &'a [u8]
-        ensures value { result.now ≡ word self.old.rest.now }
+    // All of a line, unless it asks for nothing: a line of spaces alone, or a comment.
+    pub fn of(line: &'a [u8]) -> Option<Self>
+        ensures { option_map (λ words. words.rest.now) result ≡ asking line.now }
+    {
+        match line {
+            [b'#', ..] => None,
+            _ => (!trimmed(line).is_empty()).then_some(Arguments { rest: line }),
+        }
+    }
+
+    // The next word, where one is left.
+    pub fn take_word(&mut self) -> Option<&'a [u8]>
+        ensures value { option_copied result ≡ first_word self.old.rest.now }
         ensures after { self.new.rest.now ≡ left self.old.rest.now }
     {
         let (word, rest) = split_word(self.rest);
@@ -49,58 +56,43 @@ impl<'a> Arguments<'a> {
     pub fn due(&mut self) -> Result<&'a [u8], Fault>
         ensures { told (λ x. x.now) result self.new.rest.now ≡ due self.old.rest.now }
     {
-        let word = self.take_word();
-        if word.is_empty() {
-            return Err(Fault::TooFewWords);
-        }
-        Ok(word)
+        self.take_word().ok_or(Fault::TooFewWords)
     }
 
     pub fn kind(&mut self) -> Result<Kind, Fault>
         ensures { told (λ k. k) result self.new.rest.now ≡ argument kind fault.Kind self.old.rest.now }
     {
-        let word = self.due()?;
-        if is(word, "sum") {
-            Ok(Kind::Sum)
-        } else if is(word, "xor") {
-            Ok(Kind::Xor)
-        } else {
-            Err(Fault::Kind)
-        }
+        Kind::try_from(self.due()?)
     }
 
     // Bytes that begin with an apostrophe are all that follows it.
     pub fn bytes(&mut self) -> Result<Bytes<'a>, Fault>
         ensures { told bytes_of result self.new.rest.now ≡ bytes self.old.rest.now }
     {
-        let line = trimmed(self.rest);
-        if !line.is_empty() && line[0] == b'\'' {
+        if let [b'\'', text @ ..] = trimmed(self.rest) {
             self.rest = &[];
-            return Ok(Bytes::Text(&line[1..]));
+            return Ok(Bytes::Text(text));
         }
-        let word = self.due()?;
-        in_hex(word).ok_or(Fault::Bytes)
+        in_hex(self.due()?).ok_or(Fault::Bytes)
     }
 
     // The size of a place, which may be left out.
     pub fn size_or(&mut self, usual: usize) -> Result<usize, Fault>
         ensures { told (λ n. n) result self.new.rest.now ≡ size_or usual self.old.rest.now }
     {
-        let word = self.take_word();
-        if word.is_empty() {
-            return Ok(usual);
+        match self.take_word() {
+            Some(word) => size(word, LARGEST).ok_or(Fault::Size),
+            None => Ok(usual),
         }
-        size(word, LARGEST).ok_or(Fault::Size)
     }
 
     // The value that a line was read as, unless a word is left over.
     pub fn end<T: Drop>(&mut self, value: T) -> Result<T, Fault>
         ensures { result ≡ ended value self.old.rest.now }
     {
-        if self.take_word().is_empty() {
-            Ok(value)
-        } else {
-            Err(Fault::TooManyWords)
+        match self.take_word() {
+            None => Ok(value),
+            Some(_) => Err(Fault::TooManyWords),
         }
     }
 }

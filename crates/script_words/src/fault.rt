@@ -1,8 +1,10 @@
 // What is wrong with a line that is not carried out.
-ghost use Rattle.std.specs.Prelude.{◌≡◌};
+ghost use Rattle.std.specs.Prelude.{Some};
 ghost use Rattle.script_words.specs.Faults.{text};
 
-#[derive(Clone, Copy)]
+use std::fmt;
+
+#[derive(Clone, Copy, Debug, PartialEq, Eq)]
 pub enum Fault {
     UnknownCommand,
     TooFewWords,
@@ -21,11 +23,11 @@ pub enum Fault {
     NoMedium,
 }
 
-impl Fault {
-    pub fn text(self) -> &'static str
-        ensures { result.now ≡ text self }
-    {
-        match self {
+impl fmt::Display for Fault {
+    ghost output = { λ f. Some (text f) };
+
+    fn fmt<W: fmt::Write>(&self, f: &mut fmt::Formatter<W>) -> fmt::Result {
+        f.write_str(match self {
             Fault::UnknownCommand => "unknown command",
             Fault::TooFewWords => "too few words",
             Fault::Kind => "KIND is sum or xor",
@@ -42,6 +44,6 @@ impl Fault {
             Fault::NoSlip => "no slip is kept",
             Fault::SlipKept => "a slip is kept",
             Fault::NoMedium => "no medium of that name is made",
-        }
+        })
     }
 }

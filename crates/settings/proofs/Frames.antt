@@ -1,13 +1,13 @@
 -- What a taken frame tells. Assumes nothing.
-use Rattle.std.proofs.Common.{◌≡◌, ℕ, ◌/◌, ◌%◌, ◌<◌, ◌≤◌, Bool, true, false, not, ◌&&◌, eqb, ltb, List, [], ◌∷◌, length, get_or, IfOk, Ok, Err, Result, refl, subst, arith}
+use Rattle.std.proofs.Common.{◌≡◌, ℕ, ◌/◌, ◌%◌, ◌<◌, ◌≤◌, Bool, true, false, not, ◌&&◌, eqb, List, length, get_or, IfOk, Ok, Err, Result, refl, subst, arith}
 use Rattle.std.proofs.lemmas.List.FromFn.{fill_by_all}
 use Rattle.std.proofs.lemmas.Bool.Decides.{nat_tests}
 use Rattle.packet.specs.Letters.{between}
 use Rattle.packet.specs.declared.refusal.Refusal.{Refusal}
-use Rattle.packet.specs.Refusals.{refused, answer, ◌⇒◌}
-use Rattle.packet.proofs.Judging.{Passed, passed, front_refuses}
+use Rattle.packet.specs.Refusals.{answer}
+use Rattle.packet.proofs.Judging.{Passed, passed}
 use Rattle.settings.specs.declared.values.Settings.{Settings}
-use Rattle.settings.specs.Frame.{word, settings_in, frame_rules, settings_of, change_of, InRange, frame_of}
+use Rattle.settings.specs.Frame.{word, settings_in, frame_rules, settings_of, InRange, frame_of}
 
 is : (a b : ℕ) → not (eqb a b) ≡ false → a ≡ b
 is a b e = grind (arith, nat_tests)
@@ -49,7 +49,3 @@ module _ (f : List ℕ) (P : Settings → Type 0) (here : Passed (frame_rules f)
   pub taken : (r : Result Settings Refusal) → answer (λ s. s) r ≡ settings_of f → IfOk r P
   taken (Ok s) e = let q = passed (frame_rules f) (settings_in f) s e in subst P q.1 (here q.0)
   taken (Err x) e = tt
-
--- a frame that is refused refuses the change
-pub refused_change : (f : List ℕ) (awaiting : Bool) (held n : ℕ) → refused n ≡ settings_of f → change_of f awaiting held ≡ refused n
-refused_change f awaiting held n e = front_refuses (frame_rules f) (awaiting ⇒ 14 ∷ ltb (get_or f 8 0) held ⇒ 15 ∷ []) (settings_in f) (settings_in f) n e

@@ -1,2 +1,3 @@
 pub mod Frame
+pub mod Printed
 pub mod Worked

@@ -11,7 +11,7 @@ const VERSION: u8 = 1;
 // How many bytes follow the length.
 const LENGTH: u16 = 6;
 
-// The settings in a frame, or a refusal with 8 to 13.
+// The settings in a frame, or a refusal with 8 to 13. A TryFrom would be no plainer: here its three promises have names.
 pub fn parse(frame: &[u8]) -> Result<Settings, Refusal>
     ensures value { answer (λ s. s) result ≡ settings_of frame.now }
     ensures ranges { IfOk result InRange }
@@ -20,10 +20,11 @@ pub fn parse(frame: &[u8]) -> Result<Settings, Refusal>
     take_apart(frame)
 }
 
+// What `parse` answers. Apart from it, so that the laws are proved at one return, from this one equation.
 fn take_apart(frame: &[u8]) -> Result<Settings, Refusal>
     ensures { answer (λ s. s) result ≡ settings_of frame.now }
 {
-    let [
+    let &[
         version,
         l1,
         l0,
@@ -37,28 +38,28 @@ fn take_apart(frame: &[u8]) -> Result<Settings, Refusal>
     else {
         return Err(Refusal::FrameLength);
     };
-    if *version != VERSION {
+    if version != VERSION {
         return Err(Refusal::FrameVersion);
     }
-    if u16::from_be_bytes([*l1, *l0]) != LENGTH {
+    if u16::from_be_bytes([l1, l0]) != LENGTH {
         return Err(Refusal::FrameLengthField);
     }
-    let enq_period = u16::from_be_bytes([*e1, *e0]);
-    let data_period = u16::from_be_bytes([*d1, *d0]);
-    if enq_period < 10 || 6000 < enq_period || data_period < 10 || 6000 < data_period {
+    let enq_period = u16::from_be_bytes([e1, e0]);
+    let data_period = u16::from_be_bytes([d1, d0]);
+    if !(10..=6000).contains(&enq_period) || !(10..=6000).contains(&data_period) {
         return Err(Refusal::Period);
     }
-    if *attempt_limit < 1 || 20 < *attempt_limit {
+    if !(1..=20).contains(&attempt_limit) {
         return Err(Refusal::AttemptLimit);
     }
-    if *receive_limit < 1 || 8 < *receive_limit {
+    if !(1..=8).contains(&receive_limit) {
         return Err(Refusal::ReceiveLimit);
     }
     Ok(Settings {
         enq_period,
         data_period,
-        attempt_limit: *attempt_limit,
-        receive_limit: *receive_limit,
+        attempt_limit,
+        receive_limit,
     })
 }
 

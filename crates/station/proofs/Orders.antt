@@ -1,5 +1,5 @@
 -- The order of deliveries, from that of the secondary station. Assumes nothing.
-use Rattle.std.proofs.Common.{◌≡◌, ℕ, ◌-◌, Bool, true, false, cond, not, eqb, List, [], ◌∷◌, ◌++◌, length, get_or, sym, refl, ap, ◌∙◌}
+use Rattle.std.proofs.Common.{◌≡◌, ℕ, ◌-◌, Bool, true, false, cond, not, eqb, List, [], ◌∷◌, ◌++◌, length, get_or, Option, sym, refl, ap, ◌∙◌}
 use Rattle.packet.specs.declared.number.Number.{Number}
 use Rattle.packet.specs.declared.number.Number.TheVariants.{Zero, One}
 use Rattle.packet.specs.Format.{Parts, parts, reading}
@@ -7,7 +7,7 @@ use Rattle.packet.specs.Letters.{between}
 use Rattle.packet.specs.Refusals.{Answer, refused, gave, ◌⇒◌, judged}
 use Rattle.primary.specs.Station as primary
 use Rattle.primary.specs.Table.{step_of}
-use Rattle.secondary.specs.declared.reply.Response.{Response}
+use Rattle.secondary.specs.declared.reply.Answer.{Answer as Reply}
 use Rattle.secondary.specs.Laws as deliveries
 use Rattle.secondary.specs.Station as secondary
 use Rattle.settings.specs.declared.values.Settings.{Settings}
@@ -24,7 +24,7 @@ set_apart e (refused n) = refl
 set_apart e (gave s) = refl
 
 -- DATA is stored or not, as the secondary station has it
-either_way : (e : End) (t : Bool) (r : Response) (y : secondary.Station)
+either_way : (e : End) (t : Bool) (r : Option Reply) (y : secondary.Station)
     → (left_by (seen (by_secondary e (secondary.or_kept (judged (t ⇒ 16 ∷ []) y) e.secondary)) (judged (t ⇒ 16 ∷ []) r)) e).secondary ≡ secondary.or_kept (judged (t ⇒ 16 ∷ []) y) e.secondary
 either_way e true r y = refl
 either_way e false r y = refl

@@ -1,5 +1,5 @@
 -- A message under way gets its outcome within M + 1 timeouts. Assumes nothing.
-use Rattle.std.proofs.Common.{◌≡◌, ℕ, ◌+◌, ◌-◌, ◌<◌, ◌≤◌, min, Bool, true, false, cond, ◌||◌, eqb, ltb, leb, List, [], ◌∷◌, length, get_or, sym, refl, ap, ◌∙◌, subst, arith}
+use Rattle.std.proofs.Common.{◌≡◌, ℕ, ◌+◌, ◌-◌, ◌<◌, ◌≤◌, min, Bool, true, false, cond, ◌||◌, eqb, ltb, leb, List, [], ◌∷◌, length, get_or, Option, sym, refl, ap, ◌∙◌, subst, arith}
 use mathlib.Core.Bool.{beq}
 use Rattle.std.proofs.lemmas.Bool.{leb-false, false≢true}
 use Rattle.packet.specs.Format.{Parts, parts, reading}
@@ -8,7 +8,7 @@ use Rattle.packet.specs.declared.number.Number.TheVariants.{Zero, One}
 use Rattle.packet.proofs.Judging.{passed}
 use Rattle.primary.specs.Station as primary
 use Rattle.primary.specs.Table.{cell, hears, rules, step_of, arrives, gives_up, asks, rests, sends_again, once_more}
-use Rattle.secondary.specs.declared.reply.Response.{Response}
+use Rattle.secondary.specs.declared.reply.Answer.{Answer as Reply}
 use Rattle.secondary.specs.Station as secondary
 use Rattle.settings.specs.declared.values.Settings.{Settings}
 use Rattle.settings.specs.Frame.{change_rules, settings_in}
@@ -86,7 +86,7 @@ step_kept e h w = go (step_of e.settings.attempt_limit e.primary h) refl
         record { under_way = on.under_way; limit = refl; tried = subst (λ (n : ℕ). min n 255 ≤ d.next.attempts) a on.tried }
 
 -- the secondary station's calls leave the primary alone
-answered : (e : ends.End) (s : secondary.Station) (a : Answer Response) → ends.awaiting e.primary.phase ≡ true → Kept e (ends.left_by (ends.seen (ends.by_secondary e s) a) e)
+answered : (e : ends.End) (s : secondary.Station) (a : Answer (Option Reply)) → ends.awaiting e.primary.phase ≡ true → Kept e (ends.left_by (ends.seen (ends.by_secondary e s) a) e)
 answered e s (refused n) w = same e w
 answered e s (gave r) w = record { under_way = w; limit = refl; tried = omega arith }
 

@@ -13,8 +13,8 @@ use Rattle.primary.specs.declared.event.Timer.{Timer}
 use Rattle.primary.specs.declared.event.Timer.TheVariants as timer
 use Rattle.primary.specs.Station as primary
 use Rattle.primary.specs.Table.{step_of, opening}
-use Rattle.secondary.specs.declared.reply.Response.{Response}
-use Rattle.secondary.specs.declared.reply.Response.TheVariants as response
+use Rattle.secondary.specs.declared.reply.Answer.{Answer as Reply}
+use Rattle.secondary.specs.declared.reply.Answer.TheVariants as reply
 use Rattle.secondary.specs.Station as secondary
 
 pub record End : Type 0 where
@@ -45,10 +45,12 @@ command_parts primary.ENQ = (0x45, [])
 command_parts (primary.DATA n m) = (data_byte n, m)
 
 -- the letter and the field of an answer
-abbrev pub answer_parts : Response → Option (ℕ × List ℕ)
-answer_parts response.Nothing = None
-answer_parts response.Reset = Some (0x52, [])
-answer_parts (response.Ack n credit) = Some (ack_byte (is_one n), (0x30 + credit) ∷ [])
+abbrev pub reply_parts : Reply → ℕ × List ℕ
+reply_parts reply.Reset = (0x52, [])
+reply_parts (reply.Ack n credit) = (ack_byte (is_one n), (0x30 + credit) ∷ [])
+
+abbrev pub answer_parts : Option Reply → Option (ℕ × List ℕ)
+answer_parts r = option_map reply_parts r
 
 abbrev pub with_primary : primary.Station → End → End
 with_primary p e = record { settings = e.settings; primary = p; secondary = e.secondary }
@@ -77,7 +79,7 @@ by_primary e d =
     }
 
 -- the secondary station's part: it starts no timer and gives no outcome
-abbrev pub by_secondary : End → secondary.Station → Response → Done
+abbrev pub by_secondary : End → secondary.Station → Option Reply → Done
 by_secondary e s r = record { next = with_secondary s e; sent = answer_parts r; timer = None; arrivals = 0; give_ups = 0; no_connections = 0 }
 
 abbrev pub hears : End → primary.Heard → Answer Done

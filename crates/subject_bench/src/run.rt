@@ -1,12 +1,11 @@
 // Carrying out one line of a script.
 ghost use Rattle.std.specs.Prelude.{◌≡◌, IfOk, string_bytes};
 ghost use Rattle.answers.specs.Leaving.{Left};
-ghost use Rattle.subject_bench.specs.Commands.{command_of};
-ghost use Rattle.subject_bench.specs.Runs.{said, left_by, printed, after, out_of_memory};
-ghost use Rattle.subject_bench.specs.Told.{bench_of};
+ghost use Rattle.subject_bench.specs.Runs.{answered, carried_out, printed, after};
+ghost use Rattle.subject_bench.specs.Told.{request, bench_of};
 
 use crate::command::{Command, parse};
-use answers::print;
+use answers::print::wrong;
 use end_answers::printed_settings::run_settings;
 use end_bench::ends::Ends;
 use end_bench::ends::running::run_end;
@@ -31,18 +30,24 @@ pub fn run_line(
     ensures after { Left result (bench_of bench.old) (after line.now (bench_of bench.old)) (bench_of bench.new) }
 {
     match parse(without_end(line)) {
-        Ok(Command::Blank) => Ok(String::new(heap)),
-        Ok(Command::Packet(call)) => packet_bench::run::run(heap, call),
-        Ok(Command::Settings(frame)) => run_settings(heap, frame),
-        Ok(Command::End(command)) => run_end(heap, &mut bench.ends, command),
-        Ok(Command::Medium(command)) => medium_bench::run::run(heap, &mut bench.media, command),
-        Err(fault) => print::wrong(heap, fault),
+        Ok(None) => Ok(String::new(heap)),
+        Ok(Some(command)) => run(heap, bench, command),
+        Err(fault) => wrong(heap, fault),
     }
 }
 
-// What is printed where the machine has no memory for a line.
-pub fn out_of_memory() -> &'static str
-    ensures { result.now ≡ out_of_memory }
+// Carries a command out.
+fn run(
+    heap: Global,
+    bench: &mut Workbench<'_, '_>,
+    command: Command<'_>,
+) -> Result<String, AllocError>
+    ensures answer { IfOk result (λ s. string_bytes s ≡ answered (bench_of bench.old) (request command.entry)) }
+    ensures after { Left result (bench_of bench.old) (carried_out (request command.entry) (bench_of bench.old)) (bench_of bench.new) }
 {
-    "error: out of memory\n"
+    match command {
+        Command::Settings(frame) => run_settings(heap, frame),
+        Command::End(command) => run_end(heap, &mut bench.ends, command),
+        Command::PacketOrMedium(command) => bench::run::run(heap, &mut bench.media, command),
+    }
 }

@@ -1,70 +1,38 @@
-// Answers a script: one line for each command of standard input.
+// Answers a script about packets and media: one line for each command of standard input.
 #![tactic(auto)]
 
-mod lines;
+ghost use Rattle.bench.specs.Runs.{printed};
+ghost use Rattle.named_media.specs.Model.{models};
 
-use bench::media::{NamedMedium, Workbench};
-use bench::run::{out_of_memory, run_line};
-use lines::{Taken, take_line};
-use medium::burst::Burst;
-use medium::queue::QUEUE_LIMIT;
-use packing::packed::PackedMedium;
-use packing::packed_medium::PACKED_LIMIT;
+use bench::run::run_line;
+use named_media::media::{Media, NamedMedium};
 use std::alloc::{AllocError, Global};
 use std::io;
-use std::io::{BufRead, BufReader, BufWriter, Write};
+use std::io::{BufReader, BufWriter, Write};
+use workbench_program::memory::{bursts, packed_medium};
+use workbench_program::script::{Bench, answer_lines};
+
+#[derive(Drop)]
+struct Workbench<'a, 'p>(Media<'a, 'p>);
+
+impl<'a, 'p> Bench for Workbench<'a, 'p> {
+    ghost printed = { λ w line. printed (models w.0) line };
+
+    fn run_line(&mut self, heap: Global, line: &[u8]) -> Result<String, AllocError> {
+        run_line(heap, &mut self.0, line)
+    }
+}
 
 fn main(rt: HostRuntime) -> io::Result<()> {
     let heap = rt.alloc();
     let mut input = BufReader::new(heap, rt.stdin())?;
     let mut output = BufWriter::new(heap, rt.stdout())?;
-    answer_script(heap, &mut input, &mut output)?;
+    let mut m_packed = packed_medium(heap)?;
+    let mut n_packed = packed_medium(heap)?;
+    let mut bench = Workbench(Media {
+        m: NamedMedium::over(bursts(heap)?, &mut m_packed, bursts(heap)?),
+        n: NamedMedium::over(bursts(heap)?, &mut n_packed, bursts(heap)?),
+    });
+    answer_lines(heap, &mut input, &mut output, &mut bench)?;
     output.flush()
-}
-
-fn answer_script<'a, R: BufRead, W: Write>(
-    heap: Global,
-    input: &'a mut R,
-    output: &'a mut W,
-) -> io::Result<()> {
-    let mut m_packed = PackedMedium::over(bytes(heap)?);
-    let mut n_packed = PackedMedium::over(bytes(heap)?);
-    answer_lines(heap, input, output, &mut m_packed, &mut n_packed)
-}
-
-// Memory for a packed medium, which serves as long as the program runs.
-fn bytes<'a>(heap: Global) -> Result<&'a mut [u8], AllocError> {
-    let zeros = Box::new(heap, [0u8; PACKED_LIMIT])?;
-    Ok(Box::leak(zeros))
-}
-
-// Memory for a queue, which serves as long as the program runs.
-fn bursts<'a>(heap: Global) -> Result<&'a mut [Burst], AllocError> {
-    let blank = Box::new(heap, [Burst::blank(); QUEUE_LIMIT])?;
-    Ok(Box::leak(blank))
-}
-
-fn answer_lines<'a, 'p, R: BufRead, W: Write>(
-    heap: Global,
-    input: &mut R,
-    output: &mut W,
-    m_packed: &'p mut PackedMedium<'a>,
-    n_packed: &'p mut PackedMedium<'a>,
-) -> io::Result<()> {
-    let mut bench = Workbench {
-        m: NamedMedium::over(bursts(heap)?, m_packed, bursts(heap)?),
-        n: NamedMedium::over(bursts(heap)?, n_packed, bursts(heap)?),
-    };
-    let mut line = Vec::new(heap);
-    for _ in 0..u64::MAX {
-        match take_line(heap, input, &mut line)? {
-            Taken::Line => match run_line(heap, &mut bench, &line) {
-                Ok(answer) => output.write_all(answer.as_bytes())?,
-                Err(_) => output.write_all(out_of_memory().as_bytes())?,
-            },
-            Taken::TooLong => output.write_all(out_of_memory().as_bytes())?,
-            Taken::End => break,
-        }
-    }
-    Ok(())
 }

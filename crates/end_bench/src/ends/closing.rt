@@ -8,11 +8,10 @@ ghost use Rattle.end_bench.specs.Models.{model};
 ghost use Rattle.end_bench.specs.Named.{open_end};
 
 use super::Ends;
-use crate::named::NamedEnd;
+use crate::named::OpenEnd;
 use packet::checks::Check;
 use secondary::station::DeliverySlip;
 use station::end::End;
-use std::mem::replace;
 
 impl Ends {
     // No end is open, and no slip is kept.
@@ -20,15 +19,15 @@ impl Ends {
         ensures { model result ≡ empty }
     {
         Ends {
-            a: NamedEnd::Closed,
-            b: NamedEnd::Closed,
+            a: None,
+            b: None,
             a_slip: None,
             b_slip: None,
         }
     }
 
     // Gives every slip that is kept back: the ends have no delivery out then.
-    pub fn close(self) -> (NamedEnd, NamedEnd)
+    pub fn close(self) -> (Option<OpenEnd>, Option<OpenEnd>)
         ensures { (lent (open_end result.0) ≡ None) × (lent (open_end result.1) ≡ None) }
     {
         let Ends {
@@ -44,7 +43,7 @@ impl Ends {
 }
 
 // Gives a slip back to the one of two ends that it fits.
-fn give_to_one(a: &mut NamedEnd, b: &mut NamedEnd, slip: Option<DeliverySlip>)
+fn give_to_one(a: &mut Option<OpenEnd>, b: &mut Option<OpenEnd>, slip: Option<DeliverySlip>)
     requires { Fits (kept slip) (lent (open_end a.old)) (lent (open_end b.old)) }
     ensures { GivenToOne (kept slip) (lent (open_end a.old)) (lent (open_end b.old)) (lent (open_end a.new)) (lent (open_end b.new)) }
 {
@@ -61,29 +60,18 @@ fn give_to_one(a: &mut NamedEnd, b: &mut NamedEnd, slip: Option<DeliverySlip>)
 }
 
 // Gives a slip back, or hands it back.
-fn give_back(end: &mut NamedEnd, slip: DeliverySlip) -> Result<(), DeliverySlip>
+fn give_back(end: &mut Option<OpenEnd>, slip: DeliverySlip) -> Result<(), DeliverySlip>
     ensures { GivenBack result (numbers slip) (lent (open_end end.old)) (lent (open_end end.new)) }
 {
-    match replace(end, NamedEnd::Closed) {
-        NamedEnd::Closed => Err(slip),
-        NamedEnd::Sum(mut open) => {
-            let given = give_back_to(&mut open, slip);
-            *end = NamedEnd::Sum(open);
-            given
-        }
-        NamedEnd::Xor(mut open) => {
-            let given = give_back_to(&mut open, slip);
-            *end = NamedEnd::Xor(open);
-            given
-        }
+    match end {
+        None => Err(slip),
+        Some(OpenEnd::Sum(open)) => give_back_to(open, slip),
+        Some(OpenEnd::Xor(open)) => give_back_to(open, slip),
     }
 }
 
 fn give_back_to<K: Check>(end: &mut End<K>, slip: DeliverySlip) -> Result<(), DeliverySlip>
     ensures { GivenBack result (numbers slip) (lent_by (end_model end.old).secondary) (lent_by (end_model end.new).secondary) }
 {
-    match end.give_back(slip) {
-        Ok(()) => Ok(()),
-        Err((_, slip)) => Err(slip),
-    }
+    end.give_back(slip).map_err(|(_, slip)| slip)
 }

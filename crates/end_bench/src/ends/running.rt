@@ -10,7 +10,7 @@ ghost use Rattle.end_bench.specs.Named.{open_end};
 
 use super::Ends;
 use crate::calls;
-use crate::named::NamedEnd;
+use crate::named::OpenEnd;
 use answers::values::{bytes, place};
 use end_script::end::{EndCall, EndCommand, Name};
 use secondary::station::DeliverySlip;
@@ -19,7 +19,7 @@ use std::alloc::{AllocError, Global};
 // A call on the end of a name, with the slip of a name.
 fn call_on(
     heap: Global,
-    end: &mut NamedEnd,
+    end: &mut Option<OpenEnd>,
     slip: &mut Option<DeliverySlip>,
     call: EndCall<'_>,
 ) -> Result<String, AllocError>

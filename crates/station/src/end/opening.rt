@@ -18,6 +18,7 @@ use settings::settings::parse;
 
 impl<K: Check + Drop> End<K> {
     // Opens an end on the line of this number: ENQ is sent. Refused with 8 to 13 by the settings frame.
+    #[tactic(auto, using(crate::proofs::Orders::in_order))]
     pub fn new(
         kind: K,
         line: u8,
@@ -26,22 +27,18 @@ impl<K: Check + Drop> End<K> {
     ) -> Result<(End<K>, Report), Refusal>
         ensures value { answer (λ x. told x.1) result ≡ seen (telling K.Check.meaning) (opening_of line frame.now) }
         ensures made { answer (λ x. model x.0) result ≡ seen (λ d. d.next) (opening_of line frame.now) }
-        ensures in_order { IfOk result (λ x. LeaveInOrder K.Check.size K.Check.meaning (model x.0)) }
+        ensures in_order { IfOk result (λ x. LeaveInOrder K.Check.LEN K.Check.meaning (model x.0)) }
         ensures placed { place.new ≡ placed_by K.Check.meaning (opening_of line frame.now) place.old }
     {
-        match parse(frame) {
-            Ok(settings) => {
-                let end = End {
-                    kind,
-                    settings,
-                    primary: Primary::open(),
-                    secondary: Secondary::new(line),
-                };
-                let report = end.command(Step::enq(), place);
-                Ok((end, report))
-            }
-            Err(refusal) => Err(refusal),
-        }
+        let settings = parse(frame)?;
+        let end = End {
+            kind,
+            settings,
+            primary: Primary::open(),
+            secondary: Secondary::new(line),
+        };
+        let report = end.command(Step::enq(), place);
+        Ok((end, report))
     }
 }
 
@@ -50,10 +47,7 @@ impl<K: Check> End<K> {
     fn awaiting(&self) -> bool
         ensures { result ≡ awaiting (model self.now).primary.phase }
     {
-        match self.primary.status().state {
-            State::Waiting | State::Asking => true,
-            State::Off | State::Ready => false,
-        }
+        matches!(self.primary.status().state, State::Waiting | State::Asking)
     }
 
     // All four settings change together, or none does: refused with 8 to 15.

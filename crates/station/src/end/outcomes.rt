@@ -30,7 +30,7 @@ impl<K: Check> End<K> {
         ensures after { model self.new ≡ with_secondary (after_take (length place.old) (model self.old).secondary) (model self.old) }
         ensures copied { place.new ≡ place_after (model self.old).secondary place.old }
         ensures unchanged { OnErr result (self.new ≡ self.old) }
-        ensures out { IfOk result (λ x. StaysOut K.Check.size K.Check.meaning x.1.line x.1.buffer (model self.new)) }
+        ensures out { IfOk result (λ x. StaysOut K.Check.LEN K.Check.meaning x.1.line x.1.buffer (model self.new)) }
     {
         self.secondary.take(place)
     }

@@ -1,11 +1,6 @@
-use Rattle.std.proofs.Common.{refl, ap, ◌∙◌}
-use Rattle.packet.specs.Refusals.{Answer}
-use Rattle.primary.specs.declared.station.Primary.{Primary}
+use Rattle.std.proofs.Common.{◌≡◌, refl, rules}
 use Rattle.primary.specs.Model as primary
-use Rattle.primary.specs.Station.{Did}
-use Rattle.station.specs.End.{by_primary, left_by, placed_by, seen, with_primary}
-use Rattle.station.specs.Models.{model}
-use Rattle.station.specs.Reports.{telling}
+use Rattle.std.proofs.lemmas.Result.{on_err_weaker}
 use Rattle.station.proofs.Same.{same_end}
 use Rattle.station.proofs.Sendable.{step_valid}
 use Rattle.station.proofs.end.End.hear.Goals as goal
@@ -15,14 +10,5 @@ invariant_of-self g c =
     let s = c.args.self.now in
     record { sendable = step_valid s.settings.attempt_limit (primary.heard c.args.event) s.primary c.step.new.self c.step.result s.sendable c.step.ensures.value c.step.ensures.unchanged; limited = s.limited }
 
-pub returns-in-Err : goal.returns-in-Err
-returns-in-Err g c =
-    let s = c.args.self.now in
-    let e = model s in
-    let w = c.in-Err.ensures in
-    record {
-      value = ap (λ (a : Answer Did). seen (telling g.K.Check.meaning) (seen (by_primary e) a)) w.value;
-      after = ap (λ (p : Primary). with_primary (primary.model p) e) w.unchanged ∙ ap (λ (a : Answer Did). left_by (seen (by_primary e) a) e) w.value;
-      placed = ap (λ (a : Answer Did). placed_by g.K.Check.meaning (seen (by_primary e) a) c.args.place.now) w.value;
-      unchanged = same_end _ _ refl refl w.unchanged refl;
-    }
+pub returns-in_err-step-clause-unchanged : goal.returns-in_err-step-clause-unchanged
+returns-in_err-step-clause-unchanged g c = on_err_weaker {P = c.step.new.self ≡ c.args.self.now.primary} c.from_residual.result (λ h. same_end _ _ refl refl h refl) (search rules)
