@@ -77,6 +77,7 @@ pub struct Hex<'a> {
 
 impl<'a> Hex<'a> {
     // What is printed, read as a word, stands for the same bytes.
+    #[tactic(auto, using(crate::proofs::Pairs::hex_read))]
     pub fn of(bytes: &'a [u8]) -> Self
         ensures value { result.bytes.now ≡ bytes.now }
         ensures back { unhex (hex result.bytes.now) ≡ Some bytes.now }
