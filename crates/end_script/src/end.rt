@@ -19,6 +19,7 @@ const PLACE: usize = 96;
 // The largest line number.
 const LINES: u32 = 255;
 
+// Not one type with the name of a medium: fault, letters and meaning would all be its parameters.
 #[derive(Clone, Copy, Debug, PartialEq, Eq)]
 pub enum Name {
     A,

@@ -19,6 +19,7 @@ fn digit(c: u8) -> Option<u8>
 }
 
 // The byte that two digits stand for.
+#[tactic(auto, using(crate::proofs::Pairs::digit_small))]
 pub fn byte(high: u8, low: u8) -> u8
     ensures { result ≡ byte high low }
 {
@@ -39,6 +40,7 @@ pub fn are_pairs(word: &[u8]) -> bool
 }
 
 // The bytes that pairs of digits stand for.
+#[tactic(auto, using(crate::proofs::Pairs::decoded_more))]
 pub fn decode(heap: Global, pairs: &[u8]) -> Result<Vec<u8>, AllocError>
     ensures { IfOk result (λ v. v.items ≡ decoded pairs.now) }
 {
@@ -52,12 +54,14 @@ pub fn decode(heap: Global, pairs: &[u8]) -> Result<Vec<u8>, AllocError>
 }
 
 // A pattern of 32 bits: one to eight digits.
+#[tactic(auto, using(crate::proofs::Patterns::power_more, crate::proofs::Patterns::value_more, crate::proofs::Patterns::no_digit, crate::proofs::Patterns::is_pattern, crate::proofs::Pairs::digit_small))]
 pub fn pattern(word: &[u8]) -> Option<u32>
     ensures { result ≡ pattern word.now }
 {
     if word.is_empty() || word.len() > 8 {
         return None;
     }
+    // No fold: its closure would have to be safe for any bits, and they fit only along this loop.
     let mut bits = 0u32;
     for c in word {
         bits = bits * 16 + u32::from(digit(*c)?);
@@ -73,6 +77,7 @@ pub struct Hex<'a> {
 
 impl<'a> Hex<'a> {
     // What is printed, read as a word, stands for the same bytes.
+    #[tactic(auto, using(crate::proofs::Pairs::hex_read))]
     pub fn of(bytes: &'a [u8]) -> Self
         ensures value { result.bytes.now ≡ bytes.now }
         ensures back { unhex (hex result.bytes.now) ≡ Some bytes.now }

@@ -21,6 +21,7 @@ pub fn length_before(bytes: &[u8], stop: u8) -> usize
 }
 
 // What stands before the first `stop`, and what follows it: no bytes where there is none.
+// What follows is no Option: to every caller a missing part and an empty one are the same.
 pub fn split(bytes: &[u8], stop: u8) -> (&[u8], &[u8])
     ensures before { result.0.now ≡ before stop bytes.now }
     ensures after { result.1.now ≡ after stop bytes.now }

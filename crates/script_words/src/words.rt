@@ -28,6 +28,7 @@ impl<'a> TryFrom<&'a [u8]> for Kind {
 }
 
 // Bytes as a line writes them: pairs of hexadecimal digits, or the bytes themselves.
+// No PartialEq: the same bytes may be written in either way.
 #[derive(Clone, Copy)]
 pub enum Bytes<'a> {
     Pairs(&'a [u8]),
