@@ -54,7 +54,7 @@ pub(crate) fn collect<K: Check>(heap: Global, end: &mut End<K>) -> Result<String
 {
     match end.collect() {
         Ok(outcome) => {
-            let number = outcome.number();
+            let number = u8::from(outcome);
             format!(in heap; "outcome={number}\n")
         }
         Err(why) => refused(heap, why),
