@@ -20,46 +20,33 @@ settings_call line =
 abbrev pub name_or : Name → List ℕ → Result (Name × List ℕ) Fault
 name_or usual line = cond (is_empty (word line)) (Ok (usual, left line)) (argument end_name fault.EndName line)
 
-abbrev pub end_open : List ℕ → Result Call Fault
+-- an opening, by the number of the line, a kind and a settings frame
+abbrev pub end_open : List ℕ → Result (Call × List ℕ) Fault
 end_open line =
     argument line_number fault.Line line then λ number rest.
     argument kind fault.Kind rest then λ k rest.
     bytes rest then λ frame rest.
-    ended (opening number k frame) rest
+    Ok (opening number k frame, rest)
 
--- a call with bytes
-abbrev pub end_with : (List ℕ → Call) → List ℕ → Result Call Fault
-end_with call line = bytes line then λ bs rest. ended (call bs) rest
-
--- into a place of 96 bytes where the size is left out
-abbrev pub end_take : List ℕ → Result Call Fault
-end_take line = size_or 96 line then λ n rest. ended (take n) rest
-
--- the slip kept for the end's own name where the other is left out
-abbrev pub end_give : Name → List ℕ → Result Call Fault
-end_give n line = name_or n line then λ from rest. ended (give from) rest
-
--- by the word that names the call
-abbrev pub call_on : Name → List ℕ → List ℕ → Result Call Fault
-call_on n w rest =
-    cond (bytes_eq w (codes "open")) (end_open rest)
-    (cond (bytes_eq w (codes "submit")) (end_with submit rest)
-    (cond (bytes_eq w (codes "timeout")) (ended timeout rest)
-    (cond (bytes_eq w (codes "arrive")) (end_with arrive rest)
-    (cond (bytes_eq w (codes "take")) (end_take rest)
-    (cond (bytes_eq w (codes "give")) (end_give n rest)
-    (cond (bytes_eq w (codes "collect")) (ended collect rest)
-    (cond (bytes_eq w (codes "settings")) (end_with settings rest)
-    (cond (bytes_eq w (codes "state")) (ended state rest)
+-- the call that a word names on the end of a name, with its own arguments: a take is into a place of 96 bytes where the size is
+-- left out; the slip given is the one kept for the end's own name where the other is left out
+abbrev pub call_after : List ℕ → Name → List ℕ → Result (Call × List ℕ) Fault
+call_after w n line =
+    cond (bytes_eq w (codes "open")) (end_open line)
+    (cond (bytes_eq w (codes "submit")) (bytes line then λ message rest. Ok (submit message, rest))
+    (cond (bytes_eq w (codes "timeout")) (Ok (timeout, line))
+    (cond (bytes_eq w (codes "arrive")) (bytes line then λ burst rest. Ok (arrive burst, rest))
+    (cond (bytes_eq w (codes "take")) (size_or 96 line then λ size rest. Ok (take size, rest))
+    (cond (bytes_eq w (codes "give")) (name_or n line then λ from rest. Ok (give from, rest))
+    (cond (bytes_eq w (codes "collect")) (Ok (collect, line))
+    (cond (bytes_eq w (codes "settings")) (bytes line then λ frame rest. Ok (settings frame, rest))
+    (cond (bytes_eq w (codes "state")) (Ok (state, line))
     (Err fault.UnknownCommand)))))))))
-
-abbrev pub of_name : Name → Result Call Fault → Result Command Fault
-of_name n (Ok k) = Ok (on n k)
-of_name n (Err f) = Err f
 
 -- the rest of a line that begins `end`
 abbrev pub end_call : List ℕ → Result Command Fault
 end_call line =
     argument end_name fault.EndName line then λ n rest.
-    due rest then λ call rest.
-    of_name n (call_on n call rest)
+    due rest then λ word rest.
+    call_after word n rest then λ call rest.
+    ended (on n call) rest
