@@ -1,7 +1,7 @@
 // The bytes of a buffer.
-ghost use Rattle.std.specs.Prelude.{◌≡◌, ◌≤◌, min, [], ◌++◌, length, take, drop, if◌then◌else◌, Some, None, nat_le, bit_xor, slice_index, slice_set};
+ghost use Rattle.std.specs.Prelude.{◌≡◌, ◌≤◌, min, [], ◌++◌, length, take, drop, if◌then◌else◌, Some, None, nat_le};
 ghost use Rattle.std.specs.Option.{option_map};
-ghost use Rattle.buffer.specs.Buffers.{contents};
+ghost use Rattle.buffer.specs.Buffers.{contents, flipped};
 
 use crate::Buffer;
 
@@ -39,7 +39,7 @@ impl<const N: usize> Buffer<N> {
 
     // Inverts the lowest bit of the byte at a place, if there is one.
     pub fn flip(&mut self, at: usize)
-        ensures { contents self.new ≡ slice_set (contents self.old) at (bit_xor (slice_index (contents self.old) at) 1) }
+        ensures { contents self.new ≡ flipped (contents self.old) at }
     {
         if at < self.len {
             self.memory[at] ^= 1;

@@ -5,16 +5,13 @@
 mod tests {
     use medium::Medium;
     use medium::burst::Burst;
+    use medium::class::Class;
     use medium::offer::Offer;
     use medium::queue::QueueMedium;
     use noise::lossy::LossyMedium;
     use noise::noisy::NoisyMedium;
     use packing::packed::PackedMedium;
     use ring::Ring;
-
-    fn whole(offer: Offer) -> bool {
-        matches!(offer, Offer::Whole)
-    }
 
     #[test]
     fn ring_goes_round_below_its_limit(rt: HostRuntime) {
@@ -36,16 +33,16 @@ mod tests {
         let mut memory = [Burst::blank(); 2];
         let mut queue = QueueMedium::over(&mut memory);
         let mut place = [0xee_u8; 104];
-        assert!(rt; whole(queue.offer(b"a")));
-        assert!(rt; whole(queue.offer(b"\x02E")));
-        assert!(rt; !whole(queue.offer(b"c")));
-        assert!(rt; queue.holds_commands() && !queue.holds_answers());
+        assert_eq!(rt; queue.offer(b"a"), Offer::Whole);
+        assert_eq!(rt; queue.offer(b"\x02E"), Offer::Whole);
+        assert_eq!(rt; queue.offer(b"c"), Offer::Spoilt);
+        assert!(rt; queue.holds(Class::Command) && !queue.holds(Class::Answer));
         assert_eq!(rt; queue.take(&mut place), 1);
         assert_eq!(rt; place[0], b'a');
         assert_eq!(rt; place[1], 0xee);
-        assert!(rt; !whole(queue.offer(b"")));
-        assert!(rt; !whole(queue.offer(&[7; 105])));
-        assert!(rt; whole(queue.offer(&[7; 104])));
+        assert_eq!(rt; queue.offer(b""), Offer::Spoilt);
+        assert_eq!(rt; queue.offer(&[7; 105]), Offer::Spoilt);
+        assert_eq!(rt; queue.offer(&[7; 104]), Offer::Whole);
         assert_eq!(rt; queue.count(), 2);
     }
 
@@ -54,7 +51,7 @@ mod tests {
         let mut memory: [u8; 0] = [];
         let mut packed = PackedMedium::over(&mut memory);
         let mut place = [0xee_u8; 104];
-        assert!(rt; !whole(packed.offer(b"a")));
+        assert_eq!(rt; packed.offer(b"a"), Offer::Spoilt);
         assert_eq!(rt; packed.take(&mut place), 0);
         assert_eq!(rt; place[0], 0xee);
     }
@@ -64,12 +61,12 @@ mod tests {
         let mut memory = [0u8; 8];
         let mut packed = PackedMedium::over(&mut memory);
         let mut place = [0xee_u8; 104];
-        assert!(rt; whole(packed.offer(b"ab")));
-        assert!(rt; whole(packed.offer(b"cd")));
-        assert!(rt; !whole(packed.offer(b"e")));
+        assert_eq!(rt; packed.offer(b"ab"), Offer::Whole);
+        assert_eq!(rt; packed.offer(b"cd"), Offer::Whole);
+        assert_eq!(rt; packed.offer(b"e"), Offer::Spoilt);
         assert_eq!(rt; packed.take(&mut place), 2);
-        assert!(rt; whole(packed.offer(b"xA")));
-        assert!(rt; packed.holds_answers() && !packed.holds_commands());
+        assert_eq!(rt; packed.offer(b"xA"), Offer::Whole);
+        assert!(rt; packed.holds(Class::Answer) && !packed.holds(Class::Command));
         assert_eq!(rt; packed.take(&mut place), 2);
         assert_eq!(rt; place[0], b'c');
         assert_eq!(rt; packed.count(), 1);
@@ -82,10 +79,10 @@ mod tests {
         let mut place = [0xee_u8; 104];
         // the layer loses the second offer, so the noisy medium is hit by the first and the third
         let mut lossy = LossyMedium::over(&mut noisy, 0x8000_0000);
-        assert!(rt; !whole(lossy.offer(b"abc")));
-        assert!(rt; !whole(lossy.offer(b"lost")));
-        assert!(rt; !whole(lossy.offer(b"abc")));
-        assert!(rt; whole(lossy.offer(b"abc")));
+        assert_eq!(rt; lossy.offer(b"abc"), Offer::Spoilt);
+        assert_eq!(rt; lossy.offer(b"lost"), Offer::Spoilt);
+        assert_eq!(rt; lossy.offer(b"abc"), Offer::Spoilt);
+        assert_eq!(rt; lossy.offer(b"abc"), Offer::Whole);
         assert_eq!(rt; lossy.count(), 3);
         assert_eq!(rt; lossy.take(&mut place), 3);
         assert!(rt; place[0] == b'a' ^ 1 && place[1] == b'b');

@@ -1,3 +1,1 @@
 pub mod Lists
-pub mod Written
-pub mod Exact

@@ -1,5 +1,5 @@
 -- What a queue of bursts does. Assumes nothing.
-use Rattle.std.specs.Prelude.{◌≡◌, ℕ, Bool, cond, ◌&&◌, List, [], ◌∷◌, ◌++◌, map, length, nat_lt}
+use Rattle.std.specs.Prelude.{◌≡◌, ℕ, min, Bool, cond, ◌&&◌, List, [], ◌∷◌, ◌++◌, map, length, nat_lt}
 use Rattle.ring.specs.Ring as ring
 use Rattle.medium.specs.declared.burst.Burst.{Burst}
 use Rattle.medium.specs.declared.offer.Offer.{Offer}
@@ -16,10 +16,6 @@ queued q = map bytes_of (ring.elements q.ring)
 abbrev pub places : QueueMedium → ℕ
 places q = ring.places q.ring
 
--- the memory beyond its limit
-abbrev pub beyond : QueueMedium → List Burst
-beyond q = ring.beyond q.ring
-
 -- all memory that it was lent
 abbrev pub memory : QueueMedium → List Burst
 memory q = ring.memory q.ring
@@ -27,6 +23,14 @@ memory q = ring.memory q.ring
 -- a place is free
 abbrev pub free : QueueMedium → Bool
 free q = nat_lt (length (queued q)) (places q)
+
+-- it lies over all of xs, empty, in up to 4,096 places
+abbrev pub Over : List Burst → QueueMedium → Type 0
+Over xs q = ring.Over xs 4096 q.ring
+
+-- q' is q begun anew, empty, in up to n places and no more than 4,096
+abbrev pub Anew : QueueMedium → ℕ → QueueMedium → Type 0
+Anew q n q' = ring.Anew q.ring (min n 4096) q'.ring
 
 -- what all calls leave as it is
 abbrev pub Kept : QueueMedium → QueueMedium → Type 0

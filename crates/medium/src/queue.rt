@@ -1,7 +1,7 @@
 // A medium that is a queue of up to 4,096 bursts.
-ghost use Rattle.std.specs.Prelude.{◌≡◌, min, [], length, drop};
+ghost use Rattle.std.specs.Prelude.{◌≡◌, []};
 ghost use Rattle.medium.specs.AllCarried.{all_carried};
-ghost use Rattle.medium.specs.Queue.{queued, places, beyond, memory, TakesIn, Kept};
+ghost use Rattle.medium.specs.Queue.{queued, Over, Anew, TakesIn, Kept};
 
 use crate::burst::Burst;
 use crate::class::Class;
@@ -22,8 +22,7 @@ impl<'a> QueueMedium<'a> {
     // is never written.
     pub fn over(slots: &'a mut [Burst]) -> Self
         ensures bursts { queued result ≡ [] }
-        ensures places { places result ≡ min (length slots.old) 4096 }
-        ensures beyond { beyond result ≡ drop 4096 slots.old }
+        ensures ring { Over slots.old result }
     {
         QueueMedium {
             ring: Ring::over(slots, QUEUE_LIMIT),
@@ -33,8 +32,7 @@ impl<'a> QueueMedium<'a> {
     // Starts anew with nothing under way, in up to `limit` places of its memory.
     pub fn restart(&mut self, limit: usize)
         ensures bursts { queued self.new ≡ [] }
-        ensures places { places self.new ≡ min (length (memory self.old)) (min limit 4096) }
-        ensures memory { memory self.new ≡ memory self.old }
+        ensures ring { Anew self.old limit self.new }
     {
         self.ring.restart(limit.min(QUEUE_LIMIT));
     }

@@ -2,13 +2,13 @@
 use Rattle.std.proofs.Common.{◌≡◌, ℕ, ◌<◌, Bool, true, false, cond, ◌&&◌, ltb, leb, ◌≢◌, List, [], ◌∷◌, ◌++◌, length, get_or, sym, refl, ap, ◌∙◌, inl, inr, arith}
 use lib.Bits.{bit_xor, xor_self, xor_assoc, xor_zero_l, xor_lt}
 use Rattle.std.proofs.lemmas.List.{length-set}
+use Rattle.buffer.specs.Buffers.{flipped}
 use Rattle.medium.specs.declared.offer.Offer.{Offer}
 use Rattle.medium.specs.declared.offer.Offer.TheVariants.{Spoilt}
 use Rattle.medium.specs.declared.queue.QueueMedium.{QueueMedium}
 use Rattle.medium.specs.Bursts.{carried, Altered}
 use Rattle.medium.specs.Offered.{Offered}
 use Rattle.medium.specs.Queue.{queued, free, TakesIn}
-use Rattle.noise.specs.Noisy.{flipped}
 
 -- an inverted bit makes another byte
 flip_differs : (x : ℕ) → bit_xor x 1 ≢ x

@@ -1,15 +1,12 @@
 -- What a noisy medium does. Assumes nothing.
-use Rattle.std.specs.Prelude.{◌≡◌, ℕ, ◌+◌, ◌%◌, ◌^◌, cond, not, ◌&&◌, List, [], ◌∷◌, ◌++◌, length, bit_xor, slice_index, slice_set}
+use Rattle.std.specs.Prelude.{◌≡◌, ℕ, ◌+◌, ◌%◌, ◌^◌, cond, not, ◌&&◌, List, [], ◌∷◌, ◌++◌, length}
+use Rattle.buffer.specs.Buffers.{flipped}
 use Rattle.medium.specs.declared.offer.Offer.{Offer}
 use Rattle.medium.specs.Bursts.{carried}
 use Rattle.medium.specs.Offered.{whole_if}
 use Rattle.medium.specs.Queue.{queued, free, Kept}
 use Rattle.noise.specs.declared.noisy.NoisyMedium.{NoisyMedium}
 use Rattle.noise.specs.Patterns.{low, turned}
-
--- a burst whose byte at i has its lowest bit inverted
-abbrev pub flipped : List ℕ → ℕ → List ℕ
-flipped b i = slice_set b i (bit_xor (slice_index b i) 1)
 
 -- what becomes of a burst at the pattern p and after n offers
 abbrev pub sent : ℕ → ℕ → List ℕ → List ℕ

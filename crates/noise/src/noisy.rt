@@ -1,7 +1,7 @@
 // A queue that alters a byte of the bursts that its pattern hits.
-ghost use Rattle.std.specs.Prelude.{◌≡◌, min, [], length, drop};
+ghost use Rattle.std.specs.Prelude.{◌≡◌, []};
 ghost use Rattle.medium.specs.AllCarried.{all_carried};
-ghost use Rattle.medium.specs.Queue.{queued, places, beyond, memory};
+ghost use Rattle.medium.specs.Queue.{queued, Over, Anew};
 ghost use Rattle.noise.specs.Noisy.{Sends, Keeps};
 
 use crate::pattern::Pattern;
@@ -24,8 +24,7 @@ impl<'a> NoisyMedium<'a> {
     // A noisy medium with nothing under way, offered nothing yet.
     pub fn over(slots: &'a mut [Burst], pattern: u32) -> Self
         ensures bursts { queued result.queue ≡ [] }
-        ensures places { places result.queue ≡ min (length slots.old) 4096 }
-        ensures beyond { beyond result.queue ≡ drop 4096 slots.old }
+        ensures ring { Over slots.old result.queue }
         ensures pattern { result.pattern.bits ≡ pattern }
         ensures offers { result.offers ≡ 0 }
     {
@@ -39,8 +38,7 @@ impl<'a> NoisyMedium<'a> {
     // Starts anew with nothing under way and offered nothing yet, in up to `limit` places.
     pub fn restart(&mut self, limit: usize, pattern: u32)
         ensures bursts { queued self.new.queue ≡ [] }
-        ensures places { places self.new.queue ≡ min (length (memory self.old.queue)) (min limit 4096) }
-        ensures memory { memory self.new.queue ≡ memory self.old.queue }
+        ensures ring { Anew self.old.queue limit self.new.queue }
         ensures pattern { self.new.pattern.bits ≡ pattern }
         ensures offers { self.new.offers ≡ 0 }
     {

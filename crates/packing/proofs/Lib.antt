@@ -1,3 +1,2 @@
 pub mod Rowed
 pub mod Walks
-pub mod Fitting

@@ -3,10 +3,12 @@ ghost use Rattle.std.specs.Prelude.{◌≡◌, length, drop};
 ghost use Rattle.ring.specs.Ring.{elements};
 ghost use Rattle.packing.specs.Rowed.{Packs};
 
+use crate::packed::PackedMedium;
 use ring::Ring;
 
 // From byte `at` to the end there are bursts, each after its length, and nothing else. The letter
-// of a burst is its second byte, or 0 where it has none.
+// of a burst is its second byte, or 0 where it has none. It goes by places, and not over the
+// bytes one by one, so that a step passes a whole burst.
 #[derive(Drop)]
 pub(crate) struct Letters<'r, 'a> {
     ring: &'r Ring<'a, u8>,
@@ -16,22 +18,27 @@ pub(crate) struct Letters<'r, 'a> {
     ghost all: { end ≡ length (elements ring.now) },
 }
 
-impl<'r, 'a> Letters<'r, 'a> {
-    ghost use Rattle.std.specs.Prelude.{◌≡◌, ◌^◌, ◌<◌, length, slice_index};
+impl<'a> PackedMedium<'a> {
+    ghost use Rattle.std.specs.Prelude.{◌≡◌, ◌^◌, ◌<◌, length};
     ghost use Rattle.packing.specs.Letters.{letters_of, left};
-    ghost use Rattle.packing.specs.Rowed.{unpacked, lying, Lies};
+    ghost use Rattle.packing.specs.Packed.{carries};
 
-    pub(crate) fn of(ring: &'r Ring<'a, u8>) -> Self
-        requires { Packs (elements ring.now) }
-        ensures letters { left result ≡ letters_of (unpacked (elements ring.now)) }
+    // The letters of its bursts, from the oldest on.
+    pub(crate) fn letters(&self) -> Letters<'_, 'a>
+        ensures letters { left result ≡ letters_of (carries self.now) }
         ensures counted { length (left result) < 2 ^ 64 }
     {
         Letters {
-            ring,
+            ring: &self.ring,
             at: 0,
-            end: ring.count(),
+            end: self.ring.count(),
         }
     }
+}
+
+impl<'r, 'a> Letters<'r, 'a> {
+    ghost use Rattle.std.specs.Prelude.{◌≡◌, ◌<◌, slice_index};
+    ghost use Rattle.packing.specs.Rowed.{lying, Lies};
 
     // The length of the next burst.
     fn length(&self) -> usize

@@ -1,10 +1,8 @@
 // What a packed medium does.
-ghost use Rattle.std.specs.Prelude.{◌≡◌, min, [], length, drop};
-ghost use Rattle.ring.specs.Ring.{places, beyond, memory};
+ghost use Rattle.std.specs.Prelude.{◌≡◌, []};
 ghost use Rattle.packing.specs.AllCarried.{all_carried};
-ghost use Rattle.packing.specs.Packed.{carries, PacksIn, Kept};
+ghost use Rattle.packing.specs.Packed.{carries, Over, Anew, PacksIn, Kept};
 
-use crate::letters::Letters;
 use crate::packed::PackedMedium;
 use crate::rows;
 use medium::class::Class;
@@ -21,8 +19,7 @@ impl<'a> PackedMedium<'a> {
     // limit is never written.
     pub fn over(slots: &'a mut [u8]) -> Self
         ensures bursts { carries result ≡ [] }
-        ensures places { places result.ring ≡ min (length slots.old) 65536 }
-        ensures beyond { beyond result.ring ≡ drop 65536 slots.old }
+        ensures ring { Over slots.old result }
     {
         PackedMedium {
             ring: Ring::over(slots, PACKED_LIMIT),
@@ -32,8 +29,7 @@ impl<'a> PackedMedium<'a> {
     // Starts anew with nothing under way, in up to `limit` bytes of its memory.
     pub fn restart(&mut self, limit: usize)
         ensures bursts { carries self.new ≡ [] }
-        ensures places { places self.new.ring ≡ min (length (memory self.old.ring)) (min limit 65536) }
-        ensures memory { memory self.new.ring ≡ memory self.old.ring }
+        ensures ring { Anew self.old limit self.new }
     {
         self.ring.restart(limit.min(PACKED_LIMIT));
     }
@@ -60,11 +56,11 @@ impl<'a> Medium for PackedMedium<'a> {
     }
 
     fn count(&self) -> usize {
-        Letters::of(&self.ring).count()
+        self.letters().count()
     }
 
     fn holds(&self, class: Class) -> bool {
-        Letters::of(&self.ring).any(|letter| class.has(letter))
+        self.letters().any(|letter| class.has(letter))
     }
 
     fn take(&mut self, place: &mut [u8; LONGEST]) -> usize {

@@ -1,5 +1,5 @@
 -- What a ring holds.
-use Rattle.std.specs.Prelude.{◌≡◌, ℕ, List, drop}
+use Rattle.std.specs.Prelude.{◌≡◌, ℕ, min, List, [], length, drop}
 use Rattle.ring.specs.Slots.{held, room}
 use Rattle.ring.specs.declared.Ring.{Ring}
 
@@ -23,3 +23,15 @@ memory r = r.slots.now
 pub record InPlace {X : Type 0} (r r' : Ring X) : Type 0 where
   pub places : places r' ≡ places r
   pub beyond : beyond r' ≡ beyond r
+
+-- r is the empty store over all of xs, with up to n places
+pub record Over {X : Type 0} (xs : List X) (n : ℕ) (r : Ring X) : Type 0 where
+  pub elements : elements r ≡ []
+  pub places : places r ≡ min (length xs) n
+  pub beyond : beyond r ≡ drop n xs
+
+-- r' is the empty store in all memory of r, with up to n places
+pub record Anew {X : Type 0} (r : Ring X) (n : ℕ) (r' : Ring X) : Type 0 where
+  pub elements : elements r' ≡ []
+  pub places : places r' ≡ min (length (memory r)) n
+  pub memory : memory r' ≡ memory r

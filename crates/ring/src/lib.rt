@@ -4,10 +4,10 @@
 pub mod iter;
 pub mod slots;
 
-ghost use Rattle.std.specs.Prelude.{◌≡◌, min, [], ◌∷◌, ◌++◌, length, drop, if◌then◌else◌, nat_lt};
+ghost use Rattle.std.specs.Prelude.{◌≡◌, [], ◌∷◌, ◌++◌, length, drop, if◌then◌else◌, nat_lt};
 ghost use Rattle.std.specs.List.{slice_get};
 ghost use Rattle.ring.specs.Iter.{left};
-ghost use Rattle.ring.specs.Ring.{elements, places, beyond, memory, InPlace};
+ghost use Rattle.ring.specs.Ring.{elements, places, InPlace, Over, Anew};
 ghost use Rattle.ring.specs.Slots.{held};
 
 use iter::Iter;
@@ -23,9 +23,7 @@ pub struct Ring<'a, T: Copy> {
 impl<'a, T: Copy> Ring<'a, T> {
     // An empty store. All memory up to the limit serves; memory beyond it is never written.
     pub fn over(slots: &'a mut [T], limit: usize) -> Self
-        ensures elements { elements result ≡ [] }
-        ensures places { places result ≡ min (length slots.old) limit }
-        ensures beyond { beyond result ≡ drop limit slots.old }
+        ensures { Over slots.old limit result }
     {
         Ring {
             slots,
@@ -35,9 +33,7 @@ impl<'a, T: Copy> Ring<'a, T> {
 
     // Starts anew, empty, with up to `limit` places of its memory.
     pub fn restart(&mut self, limit: usize)
-        ensures elements { elements self.new ≡ [] }
-        ensures places { places self.new ≡ min (length (memory self.old)) limit }
-        ensures memory { memory self.new ≡ memory self.old }
+        ensures { Anew self.old limit self.new }
     {
         self.span = Span::empty(limit);
     }
@@ -84,8 +80,8 @@ impl<'a, T: Copy> Ring<'a, T> {
         oldest
     }
 
-    // Takes the oldest element of the memory out of a span of it. The borrow checker does not
-    // cover the call in `take` itself, where `slots` would be lent as `&` and `span` as `&mut`.
+    // Takes the oldest element of the memory out of a span of it. Tried in `take` itself: the borrow
+    // checker does not cover `slots` lent as `&` beside `span` lent as `&mut`.
     fn take_from(&self, span: &mut Span) -> Option<T>
         ensures value { result ≡ slice_get (held self.now.slots.now span.old) 0 }
         ensures after { held self.now.slots.now span.new ≡ drop 1 (held self.now.slots.now span.old) }

@@ -1,5 +1,5 @@
 // The three functions of a first-in first-out store in a lent slice, written once for every
-// kind of element that is copied.
+// kind of element that is copied (a rule of the project: fixed memory, and no heap).
 ghost use Rattle.std.specs.Prelude.{◌≡◌, ◌<◌, ◌≤◌, [], ◌∷◌, ◌++◌, length, drop, if◌then◌else◌, nat_lt};
 ghost use Rattle.std.specs.List.{slice_get};
 ghost use Rattle.ring.specs.Slots.{held, room, place, Within};

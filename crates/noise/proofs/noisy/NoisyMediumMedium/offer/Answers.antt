@@ -1,9 +1,8 @@
 use Rattle.std.proofs.Common.{◌≡◌, ℕ, ◌%◌, ◌<◌, true, List, length, ap, ◌∙◌, subst, arith, rules}
 use Rattle.std.proofs.lemmas.Nat.{mod_below}
-use Rattle.buffer.specs.Buffers.{contents}
+use Rattle.buffer.specs.Buffers.{contents, flipped}
 use Rattle.medium.specs.Bursts.{carried}
 use Rattle.medium.specs.Queue.{TakesIn}
-use Rattle.noise.specs.Noisy.{flipped}
 use Rattle.noise.proofs.Hits.{hit_meaning}
 use Rattle.noise.proofs.noisy.NoisyMediumMedium.offer.Goals as goal
 

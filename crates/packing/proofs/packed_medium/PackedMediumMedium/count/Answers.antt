@@ -7,5 +7,5 @@ use Rattle.packing.proofs.packed_medium.PackedMediumMedium.count.Goals as goal
 
 pub returns : goal.returns
 returns c =
-    count_from_yields_List _ c.count.result c.count.ensures.ran (YieldsList-from_first (λ l. l) left _ c.of.ensures.letters)
+    count_from_yields_List _ c.count.result c.count.ensures.ran (YieldsList-from_first (λ l. l) left _ c.letters.ensures.letters)
     ∙ length-map (carries c.args.self.now) (λ b. get_or b 1 0)

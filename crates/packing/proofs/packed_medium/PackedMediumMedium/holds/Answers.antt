@@ -9,5 +9,5 @@ use Rattle.packing.proofs.packed_medium.PackedMediumMedium.holds.Goals as goal
 
 pub returns : goal.returns
 returns c =
-    any_from_yields_List (letters c.args.class) c.any.new.self _ c.any.result c.any.ensures.ran (YieldsList-from_first (λ l. l) left _ c.of.ensures.letters) (λ x b q k. search rules)
+    any_from_yields_List (letters c.args.class) c.any.new.self _ c.any.result c.any.ensures.ran (YieldsList-from_first (λ l. l) left _ c.letters.ensures.letters) (λ x b q k. search rules)
     ∙ sym (list_any-map (letters c.args.class) (λ b. get_or b 1 0) (carries c.args.self.now))

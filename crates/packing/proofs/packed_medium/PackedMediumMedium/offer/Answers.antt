@@ -1,9 +1,7 @@
-use Rattle.std.proofs.Common.{true, arith}
+use Rattle.std.proofs.Common.{true, arith, rules}
+use Rattle.std.proofs.lemmas.Grind.{common_steps}
 use Rattle.ring.specs.Ring.{elements}
-use Rattle.medium.specs.declared.offer.Offer.TheVariants.{Whole}
-use Rattle.packing.specs.declared.packed.PackedMedium.{PackedMedium}
-use Rattle.packing.proofs.Fitting.{packed_in, meaning}
-use Rattle.packing.proofs.Rowed.{packs_if}
+use Rattle.packing.proofs.Rowed.{packs_if, unpacked_if}
 use Rattle.packing.proofs.packed_medium.PackedMediumMedium.offer.Goals as goal
 
 pub invariant_of-self : goal.invariant_of-self
@@ -12,16 +10,13 @@ invariant_of-self c = record {
       c.args.self.now.packs (omega arith, omega arith) c.pack.ensures.after;
 }
 
-pub returns-then-pack : goal.returns-then-pack
-returns-then-pack c =
-    let m' : PackedMedium = record {
-      ring = c.pack.new.ring;
-      packs = packs_if (elements c.args.self.now.ring) (elements c.pack.new.ring) c.args.burst.now c.pack.result
-          c.args.self.now.packs (omega arith, omega arith) c.pack.ensures.after;
-    } in
-    let x = packed_in c.args.self.now m' c.args.burst.now true (omega arith, omega arith)
-    c.if-pack.ensures.value c.if-pack.ensures.after c.pack.ensures.place in
-    record {
-      meaning = meaning c.args.self.now c.args.burst.now Whole m' x;
-      exact = record { answer = x.answer; bursts = x.bursts; bytes = x.bytes; kept = record { places = x.kept.places; beyond = x.kept.beyond } };
-    }
+pub returns-then-pack-clause-meaning : goal.returns-then-pack-clause-meaning
+returns-then-pack-clause-meaning c = (
+  search rules,
+  unpacked_if (elements c.args.self.now.ring) (elements c.pack.new.ring) c.args.burst.now true c.args.self.now.packs (omega arith, omega arith) c.if-pack.ensures.after,
+)
+
+pub returns-then-pack-clause-exact : goal.returns-then-pack-clause-exact
+returns-then-pack-clause-exact c =
+    let u = unpacked_if (elements c.args.self.now.ring) (elements c.pack.new.ring) c.args.burst.now true c.args.self.now.packs (omega arith, omega arith) c.if-pack.ensures.after in
+    record { answer = search rules; bursts = grind (arith, common_steps, u); bytes = search rules; kept = c.pack.ensures.place }
