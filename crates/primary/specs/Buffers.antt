@@ -1,7 +1,8 @@
--- The two lists that the ring of send buffers stands for, oldest first. Assumes nothing.
-use Rattle.std.specs.Prelude.{◌≡◌, ℕ, zero, suc, ◌+◌, ◌-◌, ◌%◌, List, [], ◌∷◌, ◌++◌, replicate, Some, None, Option, slice_index_or}
+-- The two lists that the table of send buffers stands for, oldest first. Assumes nothing.
+use Rattle.std.specs.Prelude.{◌≡◌, ℕ, ◌+◌, ◌-◌, List, [], ◌∷◌, ◌++◌, replicate}
 use Rattle.std.proofs.Common.{lit≤}
 use Rattle.buffer.specs.Buffers.{contents}
+use Rattle.buffer.specs.Turns.{turns}
 use Rattle.primary.specs.declared.outcome.Outcome.{Outcome}
 use Rattle.primary.specs.declared.outcome.Outcome.TheVariants.{Arrived}
 use Rattle.primary.specs.declared.buffers.SendBuffer.{SendBuffer}
@@ -10,29 +11,19 @@ use Rattle.primary.specs.declared.buffers.SendBuffers.{SendBuffers}
 abbrev pub message_in : SendBuffer → List ℕ
 message_in b = contents b.message
 
--- f of each of n places, from k on
-abbrev pub run : {X : Type 0} → (ℕ → X) → ℕ → ℕ → List X
-run f k zero = []
-run f k (suc n) = f k ∷ run f (suc k) n
+abbrev pub outcome_in : SendBuffer → Outcome
+outcome_in b = b.outcome
 
 abbrev pub blank : SendBuffer
 blank = record { message = record { memory = replicate 96 0; len = 0; fits = lit≤ tt }; outcome = Arrived }
 
--- the buffer at the k-th place from the head
-abbrev pub slot : SendBuffers → ℕ → SendBuffer
-slot t k = slice_index_or t.buffers ((t.head + k) % 8) blank
-
 -- the messages without outcome
 abbrev pub unsettled : SendBuffers → List (List ℕ)
-unsettled t = run (λ k. message_in (slot t k)) t.done (t.used - t.done)
+unsettled t = turns message_in blank t.buffers t.head t.done (t.used - t.done)
 
 -- the outcomes not collected
 abbrev pub uncollected : SendBuffers → List Outcome
-uncollected t = run (λ k. (slot t k).outcome) 0 t.done
-
-abbrev pub first : {X : Type 0} → List X → Option X
-first [] = None
-first (x ∷ xs) = Some x
+uncollected t = turns outcome_in blank t.buffers t.head 0 t.done
 
 -- from t to t' the message m was added
 pub record Accepted (m : List ℕ) (t t' : SendBuffers) : Type 0 where

@@ -13,6 +13,7 @@ pub struct SendBuffer {
     outcome: Outcome,
 }
 
+// Not over `ring::slots`: those have no function that writes an outcome into a record in the middle.
 // Eight buffers in a ring: from `head` on `done` whose outcome is not collected, then up to `used` those without outcome.
 #[derive(Clone, Copy)]
 pub struct SendBuffers {

@@ -1,4 +1,3 @@
 pub mod Orders
 pub mod Outs
-pub mod Rings
 pub mod Turns

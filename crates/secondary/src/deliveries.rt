@@ -3,6 +3,7 @@ ghost use Rattle.std.specs.Prelude.{◌<◌, ◌≤◌};
 
 use buffer::Buffer;
 
+// Not over `ring::slots`: a slip bears its buffer's place, which a `Span` does not tell.
 // Eight buffers in turn: `held` deliveries from `oldest` on.
 #[derive(Clone, Copy)]
 pub struct Deliveries {

@@ -1,9 +1,10 @@
 // The send buffers' methods, by the two lists that the ring stands for.
-ghost use Rattle.std.specs.Prelude.{◌≡◌, ℕ, ◌+◌, ◌-◌, ◌<◌, ◌≤◌, List, [], ◌∷◌, ◌++◌, length, drop, replicate, OnOk, OnSome};
+ghost use Rattle.std.specs.Prelude.{◌≡◌, ℕ, ◌+◌, ◌-◌, ◌<◌, ◌≤◌, List, [], ◌∷◌, ◌++◌, length, drop, replicate, OnOk, OnErr, OnSome};
+ghost use Rattle.std.specs.List.{slice_get};
 ghost use Rattle.std.specs.Option.{option_map};
 ghost use Rattle.buffer.specs.Buffers.{contents};
 ghost use Rattle.packet.specs.Refusals.{answer, judged};
-ghost use Rattle.primary.specs.Buffers.{unsettled, uncollected, first, Accepted};
+ghost use Rattle.primary.specs.Buffers.{unsettled, uncollected, Accepted};
 ghost use Rattle.primary.specs.declared.outcome.Outcome.TheVariants.{NoConnection};
 ghost use Rattle.primary.specs.Rules.{message_rules, room_rules};
 
@@ -46,6 +47,7 @@ impl SendBuffers {
     }
 
     // How many messages are without outcome.
+    #[tactic(auto, using(buffer::proofs::Turns::length_turns))]
     pub(crate) fn unsettled(&self) -> usize
         ensures value { result ≡ length (unsettled self.now) }
         ensures count { result ≡ self.now.used - self.now.done }
@@ -54,45 +56,35 @@ impl SendBuffers {
     }
 
     // How many outcomes are not collected.
+    #[tactic(auto, using(buffer::proofs::Turns::length_turns))]
     pub(crate) fn uncollected(&self) -> usize
         ensures { result ≡ length (uncollected self.now) }
     {
         self.done
     }
 
-    // A message that DATA can carry and that a buffer is free for; others are refused with 16, 17 or 19.
-    pub(crate) fn admit(&self, message: &[u8]) -> Result<Buffer<96>, Refusal>
-        ensures value { answer contents result ≡ judged (message_rules message.now ++ room_rules (length (unsettled self.now) + length (uncollected self.now))) message.now }
-        ensures room { OnOk result (self.now.used < 8) }
+    // Takes a message into a free buffer; one that DATA cannot carry, or that no buffer is free for, is refused with 16, 17 or 19.
+    #[tactic(auto, using(buffer::proofs::Turns::length_turns))]
+    pub(crate) fn accept(&mut self, message: &[u8]) -> Result<(), Refusal>
+        ensures value { answer (λ u. u) result ≡ judged (message_rules message.now ++ room_rules (length (unsettled self.old) + length (uncollected self.old))) tt }
+        ensures taken { OnOk result (Accepted message.now self.old self.new) }
+        ensures unchanged { OnErr result (self.new ≡ self.old) }
     {
         let kept = sendable(message)?;
         if self.used == CAPACITY {
             return Err(Refusal::SendBuffersFull);
         }
-        Ok(kept)
-    }
-
-    // Takes a message into a free buffer.
-    pub(crate) fn put(&mut self, message: Buffer<96>)
-        requires { self.old.used < 8 }
-        ensures { Accepted (contents message) self.old self.new }
-    {
-        self.buffers[(self.head + self.used) % CAPACITY].message = message;
+        self.buffers[(self.head + self.used) % CAPACITY].message = kept;
         self.used += 1;
+        Ok(())
     }
 
     // The oldest message without outcome.
     pub(crate) fn current(&self) -> Option<&[u8]>
-        ensures { option_map (λ x. x.now) result ≡ first (unsettled self.now) }
+        ensures { option_map (λ x. x.now) result ≡ slice_get (unsettled self.now) 0 }
     {
-        if self.done == self.used {
-            return None;
-        }
-        Some(
-            self.buffers[(self.head + self.done) % CAPACITY]
-                .message
-                .as_slice(),
-        )
+        let current = &self.buffers[(self.head + self.done) % CAPACITY];
+        (self.done < self.used).then_some(current.message.as_slice())
     }
 
     // The oldest message without outcome gets one.
@@ -102,12 +94,12 @@ impl SendBuffers {
         ensures told { uncollected self.new ≡ uncollected self.old ++ outcome ∷ [] }
         ensures count { (self.new.done ≡ self.old.done + 1) × (self.new.used ≡ self.old.used) }
     {
-        let at = (self.head + self.done) % CAPACITY;
-        self.buffers[at].outcome = outcome;
+        self.buffers[(self.head + self.done) % CAPACITY].outcome = outcome;
         self.done += 1;
     }
 
     // Each message without outcome gets no connection.
+    #[tactic(auto, using(buffer::proofs::Turns::length_turns))]
     pub(crate) fn settle_rest(&mut self)
         ensures waits { unsettled self.new ≡ [] }
         ensures told { uncollected self.new ≡ uncollected self.old ++ replicate (length (unsettled self.old)) NoConnection }
@@ -120,13 +112,10 @@ impl SendBuffers {
 
     // The oldest outcome not collected.
     pub(crate) fn oldest_outcome(&self) -> Option<Outcome>
-        ensures value { result ≡ first (uncollected self.now) }
+        ensures value { result ≡ slice_get (uncollected self.now) 0 }
         ensures some { OnSome result (0 < self.now.done) }
     {
-        if self.done == 0 {
-            return None;
-        }
-        Some(self.buffers[self.head].outcome)
+        (self.done > 0).then_some(self.buffers[self.head].outcome)
     }
 
     // Frees the buffer of the oldest outcome.

@@ -172,8 +172,7 @@ impl Primary {
         ensures value { answer (did self.new) result ≡ step_of 0 (model self.old) (submission message.now) }
         ensures unchanged { OnErr result (self.new ≡ self.old) }
     {
-        let kept = self.buffers.admit(message)?;
-        self.buffers.put(kept);
+        self.buffers.accept(message)?;
         self.state = State::Waiting;
         Ok(self.send_next())
     }
@@ -184,8 +183,7 @@ impl Primary {
         ensures value { answer (did self.new) result ≡ step_of 0 (model self.old) (submission message.now) }
         ensures unchanged { OnErr result (self.new ≡ self.old) }
     {
-        let kept = self.buffers.admit(message)?;
-        self.buffers.put(kept);
+        self.buffers.accept(message)?;
         Ok(Step::default())
     }
 

@@ -1,7 +1,7 @@
 // The receive buffers, by the list of messages that they stand for.
 ghost use Rattle.std.specs.Prelude.{◌≡◌, ◌+◌, ◌-◌, ◌%◌, ◌<◌, ◌≤◌, [], ◌∷◌, ◌++◌, length, drop};
 ghost use Rattle.buffer.specs.Buffers.{contents};
-ghost use Rattle.secondary.specs.Buffers.{messages, oldest_of};
+ghost use Rattle.secondary.specs.Buffers.{messages, next_buffer, oldest_of};
 
 use super::Deliveries;
 use buffer::Buffer;
@@ -17,15 +17,16 @@ impl Deliveries {
         }
     }
 
+    #[tactic(auto, using(buffer::proofs::Turns::length_turns))]
     pub(crate) fn held(&self) -> u8
         ensures { result ≡ length (messages self.now) }
     {
         self.held as u8
     }
 
-    // The number of the oldest buffer.
+    // The number of the oldest buffer, by that of the next one.
     pub(crate) fn oldest(&self) -> u8
-        ensures { result ≡ self.now.oldest }
+        ensures { result ≡ (next_buffer self.now + 8 - length (messages self.now)) % 8 }
     {
         self.oldest as u8
     }

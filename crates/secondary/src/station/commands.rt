@@ -28,12 +28,6 @@ impl Secondary {
         ensures value { model result ≡ opened line }
         ensures in_order { LeaveInOrder (model result) }
     {
-        Secondary::empty(line)
-    }
-
-    fn empty(line: u8) -> Secondary
-        ensures { model result ≡ opened line }
-    {
         Secondary {
             line,
             last: None,
