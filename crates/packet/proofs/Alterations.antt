@@ -7,6 +7,7 @@ use Rattle.packet.specs.Checks.{Each, Altered}
 use Rattle.packet.specs.Format.{Parts, parts, covered, packet, reading}
 use Rattle.packet.specs.Laws.{AlteredRefused}
 use Rattle.packet.specs.Letters.{between, known, is_data, each_between, least, greatest}
+use Rattle.packet.specs.Ranges.{each_append, head_same}
 use Rattle.packet.specs.Refusals.{Answer, refused, gave}
 use Rattle.packet.proofs.Roundtrip.{Accepted, accepted, read_is_written}
 
@@ -19,9 +20,6 @@ fronts p q r s n e = (
 
 tail_same : {a b : ℕ} {xs ys : List ℕ} → a ∷ xs ≡ b ∷ ys → xs ≡ ys
 tail_same e = cc
-
-head_same : {a b : ℕ} {xs ys : List ℕ} → a ∷ xs ≡ b ∷ ys → a ≡ b
-head_same e = cc
 
 -- a known letter, and each byte that a field may hold, lies below 128
 known_low : (l : ℕ) → known l ≡ true → l ≤ 0x7f
@@ -42,14 +40,9 @@ each_low a b (x ∷ xs) h t zero lt =
     (omega arith, omega arith)
 each_low a b (x ∷ xs) h t (suc k) lt = each_low a b xs h (and_parts (between a b x) (each_between a b xs) t).1 k (omega arith)
 
-joined_low : (xs ys : List ℕ) → Each 0 0x7f xs → Each 0 0x7f ys → Each 0 0x7f (xs ++ ys)
-joined_low [] ys h g k lt = g k lt
-joined_low (x ∷ xs) ys h g zero lt = h zero (omega arith)
-joined_low (x ∷ xs) ys h g (suc k) lt = joined_low xs ys (λ j l. h (suc j) (omega arith)) g k (omega arith)
-
 covered_low : (l : ℕ) (f : List ℕ) → Accepted l f → Each 0 0x7f (covered l f)
 covered_low l f a zero lt = let h = known_low l a.letter in (omega arith, omega arith)
-covered_low l f a (suc k) lt = joined_low f (3 ∷ []) (each_low (least l) (greatest l) f (greatest_low l) a.bytes) three k (omega arith)
+covered_low l f a (suc k) lt = each_append 0 0x7f f (3 ∷ []) (each_low (least l) (greatest l) f (greatest_low l) a.bytes) three k (omega arith)
   where
     three : Each 0 0x7f (3 ∷ [])
     three zero lt = (omega arith, omega arith)

@@ -4,12 +4,11 @@ use borrow.Rule.Slice.PartMut.{put_mid}
 use Rattle.std.proofs.lemmas.List.{append_assoc, drop_more, set_at, take_at}
 use Rattle.std.proofs.lemmas.Slice.{put_mid-paste, drop-append-drop}
 use Rattle.std.proofs.lemmas.List.Edits.{paste_all}
-use Rattle.std.proofs.lemmas.Bool.{le-ltb}
 use Rattle.packet.specs.Format.{covered, packet, field_rules, writing_rules, writing, after_writing, reading}
 use Rattle.packet.specs.Laws.{ReadsBack}
 use Rattle.packet.specs.Letters.{known}
 use Rattle.packet.specs.Refusals.{Answer, refused, gave, Rule, ◌⇒◌, judged}
-use Rattle.packet.proofs.Judging.{past, all_past, passed, front_refuses}
+use Rattle.packet.proofs.Judging.{past, passed, front_refuses}
 use Rattle.packet.proofs.Readings.{found_letter}
 use Rattle.packet.proofs.Roundtrip.{covered_long, packet_long, taken, reads_back}
 
@@ -65,11 +64,6 @@ module _ (c l k : ℕ) (f : List ℕ) (n : ℕ) (found : gave k ≡ cond (known 
 
   pub way_field : (m : ℕ) → refused m ≡ judged (field_rules k f) (tt {0}) → refused m ≡ writing c l f n
   way_field m e = sym (past_letter ∙ front_refuses (field_rules l f) (room ∷ []) (length f + 3 + c) (tt {0}) m (e ∙ moved))
-
-  pub way_out : (r : ℕ) (u : Unit {0}) → gave u ≡ judged (field_rules k f) (tt {0}) → r ≡ c → length f + 3 + c ≤ n → gave (length f + 3 + r) ≡ writing c l f n
-  way_out r u e is enough =
-      ap (λ (m : ℕ). gave (length f + 3 + m)) is
-      ∙ sym (past_letter ∙ past (field_rules l f) (room ∷ []) (length f + 3 + c) (passed (field_rules l f) (tt {0}) u (e ∙ moved)).0 ∙ all_past (room ∷ []) (length f + 3 + c) (le-ltb n (length f + 3 + c) enough, tt))
 
 -- the packet stands at the buffer's front, so that many bytes read back
 pub back : (c : ℕ) (check : List ℕ → List ℕ) (sized : (xs : List ℕ) → length (check xs) ≡ c) (l : ℕ) (f : List ℕ) (r : Answer ℕ) (out was : List ℕ) → r ≡ writing c l f (length was) → out ≡ after_writing r (packet check l f) was → ReadsBack c check l f r out

@@ -4,10 +4,8 @@ use Rattle.std.proofs.Common.{sym, ap, ◌∙◌, subst, arith, le_of_suc-le-suc
 use Rattle.std.specs.Int.Bits.{xor_self, xor_assoc, xor_zero_r}
 use Rattle.std.proofs.lemmas.Nat.{xor_comm, xor_lt}
 use Rattle.std.proofs.lemmas.List.Sums.{sum_by-set}
+use Rattle.packet.specs.Ranges.{head_same}
 use Rattle.packet.specs.Checks.{Each, Altered, sum_of, xor_of, sum_check, xor_check}
-
-head_same : {a b : ℕ} {xs ys : List ℕ} → a ∷ xs ≡ b ∷ ys → a ≡ b
-head_same e = cc
 
 -- two bytes below 128 that are equal modulo 128 at the place of a change contradict it
 no_change : (xs ys : List ℕ) (i v : ℕ) → i < length xs → ys ≡ slice_set xs i v → (slice_index xs i ≢ v) → Each 0 0x7f xs → Each 0 0x7f ys → slice_index xs i % 128 ≢ v % 128

@@ -6,5 +6,6 @@ pub mod Letters
 pub mod Numbers
 pub mod Packets
 pub mod Refusals
+pub mod Ranges
 pub mod Worked
 pub mod Folds

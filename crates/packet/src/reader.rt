@@ -63,7 +63,7 @@ fn take_apart<K: Check>(burst: &[u8]) -> Result<Packet<'_>, Refusal>
     ensures { answer told result ≡ reading K.LEN K.meaning burst.now }
 {
     let n = burst.len();
-    if !(3 + K::LEN..=99 + K::LEN).contains(&n) {
+    if !length_fits::<K>(n) {
         return Err(Refusal::BurstLength);
     }
     let [first, letter, rest @ ..] = burst else {
@@ -87,6 +87,13 @@ fn take_apart<K: Check>(burst: &[u8]) -> Result<Packet<'_>, Refusal>
         place: FIELD_PLACE,
         field,
     })
+}
+
+// Whether a packet may have `n` bytes.
+fn length_fits<K: Check>(n: usize) -> bool
+    ensures { result ≡ between (3 + K.LEN) (99 + K.LEN) n }
+{
+    (3 + K::LEN..=99 + K::LEN).contains(&n)
 }
 
 // Whether the last bytes are the check of those from the letter to them.

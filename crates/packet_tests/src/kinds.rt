@@ -2,7 +2,8 @@
 ghost use Rattle.packet_tests.specs.Kinds.{pair_check, five_check};
 ghost use Rattle.packet.specs.Checks.{sum_check, xor_check};
 ghost use Rattle.packet.specs.Folds.{xor_marked, sum_tells};
-ghost use Rattle.packet_tests.specs.Marks.{both_marked, sum_marked, five_marked};
+ghost use Rattle.packet.specs.Ranges.{each_append};
+ghost use Rattle.packet_tests.specs.Marks.{sum_marked, five_marked};
 ghost use Rattle.std.proofs.Common.{ap, rules};
 ghost use Rattle.std.specs.Prelude.{take};
 
@@ -26,7 +27,7 @@ impl Check for Pair {
 
     ghost sized = { Prim.search rules };
 
-    ghost marked = { λ xs. both_marked (sum_check xs) (xor_check xs) (sum_marked xs) (xor_marked xs) };
+    ghost marked = { λ xs. each_append 0x80 0xff (sum_check xs) (xor_check xs) (sum_marked xs) (xor_marked xs) };
 
     ghost tells = { λ xs ys h g a e. sum_tells xs ys h g a (ap (take 1) e) };
 

@@ -1,5 +1,5 @@
 -- Ends with the same parts are the same end. Assumes nothing.
-use Rattle.std.proofs.Common.{◌≡◌, ◌≤◌, true, IfErr, Ok, Err, Result}
+use Rattle.std.proofs.Common.{◌≡◌, ◌≤◌, true}
 use mathlib.Core.Bool.{Bool-set}
 use mathlib.Core.HLevel.{is_prop→PathP}
 use native.Mathlib.Bridge.{le_prop}
@@ -20,8 +20,3 @@ same_end e e' k s p q =
       sendable = is_prop→PathP (λ j. all_valid (unsettled_in (model (p j)).phase) ≡ true) (λ j. Bool-set _ _) e'.sendable e.sendable i;
       limited = is_prop→PathP (λ j. (s j).attempt_limit ≤ 20) (λ j. le_prop) e'.limited e.limited i;
     }
-
--- what a refused call leaves, from what a part of it leaves
-pub where_same : {K A E P : Type 0} {g : check.Ghosts K} (r : Result A E) (e e' : End K g) → (P → e' ≡ e) → IfErr r (λ _. P) → IfErr r (λ _. e' ≡ e)
-where_same (Ok x) e e' f h = tt
-where_same (Err x) e e' f h = f h

@@ -10,6 +10,8 @@ use secondary::station::Secondary;
 use settings::values::Settings;
 
 // Every message without outcome can be sent: its submission was not refused. The attempt limit came from a settings frame.
+// From that limit follows what three calls promise as `in_time`. It stays in their contracts: as a ghost field it would be
+// no plainer, since each change of an end would prove it again, and callers read clauses.
 #[derive(Drop)]
 pub struct End<K: Check> {
     kind: K,

@@ -1,10 +1,11 @@
 // Messages at the limits of their length, and the frame that once changed settings while it was refused.
 use packet::refusal::Refusal;
 use packet::sum::Sum;
+use primary::station::{State, Status};
+use settings::values::Settings;
 use station::end::End;
-use station::report::Report;
+use station::report::{Holding, Report};
 use std::process::Abort;
-use std::test::Fail;
 
 const FRAME: [u8; 9] = [0x01, 0x00, 0x06, 0x00, 0xc8, 0x01, 0x2c, 0x03, 0x08];
 
@@ -13,86 +14,56 @@ const BAD_FRAME: [u8; 9] = [0x01, 0x00, 0x06, 0x00, 0x64, 0x17, 0x71, 0x05, 0x04
 
 const RESET: [u8; 4] = [0x02, 0x52, 0x03, 0xd5];
 
-// The refusal's number, 0 where there was none.
-fn number(r: Result<Report, Refusal>) -> u8 {
-    match r {
-        Ok(_) => 0,
-        Err(refusal) => refusal.number(),
-    }
+// The number of the refusal, none where the call is not refused.
+fn refused(r: Result<Report, Refusal>) -> Option<u8> {
+    r.err().map(u8::from)
 }
 
-// What an end tells of itself: settings, then state, number, attempts, credit and held.
-#[derive(Clone, Copy)]
+// What an end tells of itself.
+#[derive(Clone, Copy, PartialEq, Eq)]
 struct View {
-    settings: [u16; 4],
-    station: [u8; 5],
+    settings: Settings,
+    status: Status,
+    holding: Holding,
 }
 
 fn seen(end: &End<Sum>) -> View {
-    let s = end.settings();
-    let status = end.status();
     View {
-        settings: [
-            s.enq_period,
-            s.data_period,
-            s.attempt_limit as u16,
-            s.receive_limit as u16,
-        ],
-        station: [
-            status.state as u8,
-            status.number as u8,
-            status.attempts,
-            status.credit,
-            end.holding().held,
-        ],
+        settings: end.settings(),
+        status: end.status(),
+        holding: end.holding(),
     }
 }
 
 // The bad frame is refused with 11, and the end tells what it told before.
-fn refuses(rt: &impl Abort, end: &mut End<Sum>, state: u8) {
+fn refuses(rt: &impl Abort, end: &mut End<Sum>, state: State) {
     let before = seen(end);
-    assert_eq!(rt; before.station[0], state);
-    let refused = match end.change_settings(&BAD_FRAME) {
-        Ok(()) => 0,
-        Err(refusal) => refusal.number(),
-    };
-    assert_eq!(rt; refused, 11);
-    let after = seen(end);
-    assert!(rt; before.settings == after.settings);
-    assert!(rt; before.station == after.station);
+    assert_eq!(rt; before.status.state, state);
+    assert_eq!(rt; end.change_settings(&BAD_FRAME).map_err(u8::from), Err(11));
+    assert!(rt; before == seen(end));
 }
 
 #[test]
-fn messages_of_1_to_96_bytes_pass(rt: HostRuntime) -> Result<(), Fail> {
+fn messages_of_1_to_96_bytes_pass(rt: HostRuntime) {
     let mut place = [0u8; 104];
     let text = [0x41u8; 97];
-    let Ok(opened) = End::new(Sum, 0, &FRAME, &mut place) else {
-        assert!(rt; false);
-        return Ok(());
-    };
-    let mut end = opened.0;
-    assert_eq!(rt; number(end.arrive(&RESET, &mut place)), 0);
-    assert_eq!(rt; number(end.submit(&text[0..0], &mut place)), 16);
-    assert_eq!(rt; number(end.submit(&text, &mut place)), 16);
-    assert_eq!(rt; number(end.submit(&text[0..1], &mut place)), 0);
-    assert_eq!(rt; number(end.submit(&text[0..96], &mut place)), 0);
-    Ok(())
+    let (mut end, _) = End::new(Sum, 0, &FRAME, &mut place).expect(&rt, "FRAME is taken");
+    assert_eq!(rt; refused(end.arrive(&RESET, &mut place)), None);
+    assert_eq!(rt; refused(end.submit(&text[0..0], &mut place)), Some(16));
+    assert_eq!(rt; refused(end.submit(&text, &mut place)), Some(16));
+    assert_eq!(rt; refused(end.submit(&text[0..1], &mut place)), None);
+    assert_eq!(rt; refused(end.submit(&text[0..96], &mut place)), None);
 }
 
 #[test]
-fn refused_frame_changes_nothing_in_any_state(rt: HostRuntime) -> Result<(), Fail> {
+fn refused_frame_changes_nothing_in_any_state(rt: HostRuntime) {
     let mut place = [0u8; 104];
-    let Ok(opened) = End::new(Sum, 0, &FRAME, &mut place) else {
-        assert!(rt; false);
-        return Ok(());
-    };
-    let mut end = opened.0;
-    refuses(&rt, &mut end, 0);
-    assert_eq!(rt; number(end.arrive(&RESET, &mut place)), 0);
-    refuses(&rt, &mut end, 1);
-    assert_eq!(rt; number(end.submit(b"OK", &mut place)), 0);
-    refuses(&rt, &mut end, 2);
+    let (mut end, _) = End::new(Sum, 0, &FRAME, &mut place).expect(&rt, "FRAME is taken");
+    refuses(&rt, &mut end, State::Off);
+    assert_eq!(rt; refused(end.arrive(&RESET, &mut place)), None);
+    refuses(&rt, &mut end, State::Ready);
+    assert_eq!(rt; refused(end.submit(b"OK", &mut place)), None);
+    refuses(&rt, &mut end, State::Waiting);
     let _ = end.timeout(&mut place);
-    refuses(&rt, &mut end, 3);
-    Ok(())
+    refuses(&rt, &mut end, State::Asking);
 }

@@ -50,7 +50,9 @@ fn period(settings: &Settings, timer: Timer) -> u16
 fn credit_in(field: &[u8]) -> u8
     ensures { result ≡ slice_index field.now 0 - 0x30 }
 {
-    field.first().map_or(0, |credit| credit.saturating_sub(0x30))
+    field
+        .first()
+        .map_or(0, |credit| credit.saturating_sub(0x30))
 }
 
 impl<K: Check> End<K> {
@@ -68,7 +70,9 @@ impl<K: Check> End<K> {
         };
         Report {
             sent,
-            timer: step.timer.map(|timer| (timer, period(&self.settings, timer))),
+            timer: step
+                .timer
+                .map(|timer| (timer, period(&self.settings, timer))),
             tally: step.tally,
         }
     }

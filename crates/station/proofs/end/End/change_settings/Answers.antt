@@ -1,11 +1,12 @@
-use Rattle.std.proofs.Common.{◌≡◌, ℕ, ◌≤◌, Bool, IfOk, IfErr, Ok, Err, Result, sym, refl, ap, ◌∙◌, subst}
+use Rattle.std.proofs.Common.{◌≡◌, ◌≤◌, IfOk, IfErr, Ok, Err, Result, sym, refl, subst}
+use Rattle.std.proofs.lemmas.Result.{on_err_weaker}
 use Rattle.packet.specs.declared.refusal.Refusal.{Refusal}
 use Rattle.packet.specs.Refusals.{Answer, refused, gave}
 use Rattle.settings.specs.declared.values.Settings.{Settings}
-use Rattle.settings.specs.Frame.{change_of, settings_after, told, InRange}
-use Rattle.station.specs.End.{End, awaiting, change, set_by, with_settings}
+use Rattle.settings.specs.Frame.{settings_after, InRange}
+use Rattle.station.specs.End.{End, change, set_by, with_settings}
 use Rattle.station.specs.Models.{model}
-use Rattle.station.proofs.Same.{same_end, where_same}
+use Rattle.station.proofs.Same.{same_end}
 use Rattle.station.proofs.end.End.change_settings.Goals as goal
 
 -- the settings of an end changed
@@ -24,15 +25,10 @@ invariant_of-self g c =
     let w = c.change.ensures in
     record { sendable = s.sendable; limited = still_limited c.change.result s.settings _ s.limited w.ranges w.unchanged }
 
-pub returns : goal.returns
-returns g c =
-    let s = c.args.self.now in
-    let f = c.args.frame.now in
-    let e = model s in
-    let is : change_of f c.awaiting-awaiting.result c.held-held.result ≡ change e f = ap (λ (b : Bool). change_of f b c.held-held.result) c.awaiting-awaiting.ensures ∙ ap (λ (n : ℕ). change_of f (awaiting e.primary.phase) n) c.held-held.ensures in
-    let w = c.change.ensures in
-    record {
-      value = w.value ∙ ap told is;
-      after = ap (λ (t : Settings). with_settings t e) w.after ∙ set_is (change_of f c.awaiting-awaiting.result c.held-held.result) e ∙ ap (λ (x : Answer Settings). set_by x e) is;
-      unchanged = where_same c.change.result _ _ (λ h. same_end _ _ refl h refl refl) w.unchanged;
-    }
+pub returns-clause-unchanged : goal.returns-clause-unchanged
+returns-clause-unchanged g c = on_err_weaker c.change.result (λ h. same_end _ _ refl h refl refl) c.change.ensures.unchanged
+
+pub returns-clause-after : goal.returns-clause-after
+returns-clause-after g c =
+    let e = model c.args.self.now in
+    rw (c.change.ensures.after, c.awaiting-awaiting.ensures, c.held-held.ensures) (set_is (change e c.args.frame.now) e)
