@@ -6,7 +6,8 @@ use Rattle.packet.specs.Refusals.{Answer, refused, gave}
 use Rattle.primary.specs.declared.event.Timer.{Timer}
 use Rattle.primary.specs.declared.outcome.Outcome.{Outcome}
 use Rattle.primary.specs.Names.{timer_text}
-use Rattle.primary.specs.Outcomes.{outcome_number}
+use Rattle.primary.specs.declared.outcome.Tally.{Tally}
+use Rattle.primary.specs.Outcomes.{outcome_number, tally_text}
 use Rattle.station.specs.End.{Done, burst}
 use Rattle.station.specs.Reports.{Told, telling}
 use Rattle.answers.specs.Lines.{end, refusal, text_or_none}
@@ -19,10 +20,13 @@ letter_text l = text_or_none (λ x. x ∷ []) l
 abbrev pub started_text : Timer × ℕ → List ℕ
 started_text t = timer_text t.0 ++ (codes ":" ++ decimal t.1)
 
+abbrev pub tally : Told → Tally
+tally t = record { arrived = t.arrivals; given_up = t.give_ups; no_connection = t.no_connections }
+
 -- `sent=E burst=024503C8 timer=enq:200 outcomes=0,0,0`, with the burst that was sent
 abbrev pub report : Told → List ℕ → List ℕ
 report t b =
-    codes "sent=" ++ (letter_text (option_map (λ p. p.0) t.sent) ++ (codes " burst=" ++ (hex b ++ (codes " timer=" ++ (text_or_none started_text t.timer ++ (codes " outcomes=" ++ (decimal t.arrivals ++ (codes "," ++ (decimal t.give_ups ++ (codes "," ++ (decimal t.no_connections ++ end)))))))))))
+    codes "sent=" ++ (letter_text (option_map (λ p. p.0) t.sent) ++ (codes " burst=" ++ (hex b ++ (codes " timer=" ++ (text_or_none started_text t.timer ++ (codes " outcomes=" ++ (tally_text (tally t) ++ end)))))))
 
 abbrev pub sent_length : Told → ℕ
 sent_length t = unwrap_or (option_map (λ p. p.1) t.sent) 0

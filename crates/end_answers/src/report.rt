@@ -1,14 +1,18 @@
 // What a call on an end did, in print.
-ghost use Rattle.std.specs.Prelude.{◌≡◌, Some, IfOk, string_bytes};
+ghost use Rattle.std.specs.Prelude.{◌≡◌, take, Some, IfOk, string_bytes};
+ghost use Rattle.std.specs.Option.{option_map, unwrap_or};
+ghost use Rattle.packet.specs.Bytes.{byte_of};
 ghost use Rattle.packet.specs.Refusals.{answer, gave};
-ghost use Rattle.station.specs.Reports.{told};
-ghost use Rattle.end_answers.specs.Reports.{started_text, told_line};
+ghost use Rattle.station.specs.Reports.{packet_sent, told};
+ghost use Rattle.answers.specs.Lines.{text_or_none};
+ghost use Rattle.end_answers.specs.Reports.{letter_text, started_text, told_line};
 
 use answers::print::{OrNone, refused};
 use notation::hex::Hex;
+use packet::letter::Letter;
 use packet::refusal::Refusal;
 use primary::event::Timer;
-use station::report::Report;
+use station::report::{Report, Sent};
 use std::alloc::{AllocError, Global};
 use std::fmt;
 
@@ -27,6 +31,50 @@ impl fmt::Display for Started {
     }
 }
 
+// The letter that was sent, if any.
+#[derive(Clone, Copy)]
+struct SentLetter(Option<Letter>);
+
+impl fmt::Display for SentLetter {
+    ghost output = { λ sent. Some (letter_text (option_map byte_of sent.0)) };
+
+    fn fmt<W: fmt::Write>(&self, f: &mut fmt::Formatter<W>) -> fmt::Result {
+        OrNone(self.0).fmt(f)
+    }
+}
+
+// The timer that was started, if any.
+#[derive(Clone, Copy)]
+struct StartedTimer(Option<Started>);
+
+impl fmt::Display for StartedTimer {
+    ghost output = { λ timer. Some (text_or_none started_text (option_map (λ t. (t.0, t.1)) timer.0)) };
+
+    fn fmt<W: fmt::Write>(&self, f: &mut fmt::Formatter<W>) -> fmt::Result {
+        OrNone(self.0).fmt(f)
+    }
+}
+
+fn letter_of(sent: Option<Sent>) -> SentLetter
+    ensures { option_map byte_of result.0 ≡ option_map (λ p. p.0) (option_map packet_sent sent) }
+{
+    SentLetter(sent.map(|sent| sent.letter))
+}
+
+fn timer_of(timer: Option<(Timer, u16)>) -> StartedTimer
+    ensures { option_map (λ t. (t.0, t.1)) result.0 ≡ timer }
+{
+    StartedTimer(timer.map(|(timer, period)| Started(timer, period)))
+}
+
+// The burst that was sent, from the front of the place.
+fn sent_burst<'a>(sent: Option<Sent>, place: &'a [u8; PLACE]) -> &'a [u8]
+    ensures { result.now ≡ take (unwrap_or (option_map (λ p. p.1) (option_map packet_sent sent)) 0) place.now }
+{
+    let length = sent.map_or(0, |sent| sent.length);
+    &place[..length.min(PLACE)]
+}
+
 // A report behind a word, with the burst that lies at the front of the place.
 fn report_line(
     heap: Global,
@@ -36,10 +84,9 @@ fn report_line(
 ) -> Result<String, AllocError>
     ensures { IfOk result (λ s. string_bytes s ≡ told_line word.now (gave (told report)) place.now) }
 {
-    let letter = OrNone(report.sent.map(|sent| sent.letter));
-    let length = report.sent.map_or(0, |sent| sent.length);
-    let burst = Hex::of(&place[..length.min(PLACE)]);
-    let timer = OrNone(report.timer.map(|(timer, period)| Started(timer, period)));
+    let letter = letter_of(report.sent);
+    let burst = Hex::of(sent_burst(report.sent, place));
+    let timer = timer_of(report.timer);
     let tally = report.tally;
     format!(in heap; "{word}sent={letter} burst={burst} timer={timer} outcomes={tally}\n")
 }

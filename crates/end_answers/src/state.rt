@@ -15,18 +15,29 @@ use std::alloc::{AllocError, Global};
 use std::fmt;
 
 // The primary station's part.
+#[derive(Clone, Copy)]
 struct Sender(Status);
 
 impl fmt::Display for Sender {
     ghost output = { λ sender. Some (status_text sender.0) };
 
     fn fmt<W: fmt::Write>(&self, f: &mut fmt::Formatter<W>) -> fmt::Result {
-        let Status { state, number, attempts, credit, .. } = self.0;
-        write!(f, "state={state} number={number} attempts={attempts} credit={credit}")
+        let Status {
+            state,
+            number,
+            attempts,
+            credit,
+            ..
+        } = self.0;
+        write!(
+            f,
+            "state={state} number={number} attempts={attempts} credit={credit}"
+        )
     }
 }
 
 // The secondary station's part.
+#[derive(Clone, Copy)]
 struct Receiver(Holding);
 
 impl fmt::Display for Receiver {

@@ -8,7 +8,7 @@ use Rattle.packet.specs.Letters.{between}
 use Rattle.packet.specs.Refusals.{Answer, refused, gave, ◌⇒◌, judged}
 use Rattle.primary.specs.Station as primary
 use Rattle.primary.specs.Table.{step_of}
-use Rattle.secondary.specs.declared.reply.Response.{Response}
+use Rattle.secondary.specs.declared.reply.Answer.{Answer as Reply}
 use Rattle.secondary.specs.Station.{Station, or_kept, free_buffers, stored}
 use Rattle.settings.specs.declared.values.Settings.{Settings}
 use Rattle.station.specs.End.{End, limit, hears, by_primary, by_secondary, enq_heard, data_heard, after_reading, arrival, left_by, set_by, seen}
@@ -41,7 +41,7 @@ stored_lent n m s lt =
     ap (λ b. cond s.out (Some (s.line, b)) None) (turned s.next (length s.held) _ lt (length-append s.held (m ∷ [])))
 
 -- `t` refuses the message, `u` says that a buffer is free
-data_lent : (e : End) (t u : Bool) (n : Number) (m : List ℕ) (r : Response) → (u ≡ true → length e.secondary.held < 8)
+data_lent : (e : End) (t u : Bool) (n : Number) (m : List ℕ) (r : Option Reply) → (u ≡ true → length e.secondary.held < 8)
     → lent_at (left_by (seen (by_secondary e (or_kept (judged (t ⇒ 16 ∷ []) (cond u (stored n m e.secondary) e.secondary)) e.secondary)) (judged (t ⇒ 16 ∷ []) r)) e) ≡ lent_at e
 data_lent e true u n m r lt = refl
 data_lent e false true n m r lt = stored_lent n m e.secondary (lt refl)

@@ -40,8 +40,8 @@ pub(crate) fn arrive<K: Check>(
     end: &mut End<K>,
     burst: &[u8],
 ) -> Result<String, AllocError>
-    ensures printed { IfOk result (λ s. string_bytes s ≡ done_line K.Check.meaning [] (arrival K.Check.size K.Check.meaning (model end.old) burst.now)) }
-    ensures after { model end.new ≡ left_by (arrival K.Check.size K.Check.meaning (model end.old) burst.now) (model end.old) }
+    ensures printed { IfOk result (λ s. string_bytes s ≡ done_line K.Check.meaning [] (arrival K.Check.LEN K.Check.meaning (model end.old) burst.now)) }
+    ensures after { model end.new ≡ left_by (arrival K.Check.LEN K.Check.meaning (model end.old) burst.now) (model end.old) }
 {
     let mut place = [FILL; PLACE];
     let result = end.arrive(burst, &mut place);
@@ -54,7 +54,7 @@ pub(crate) fn collect<K: Check>(heap: Global, end: &mut End<K>) -> Result<String
 {
     match end.collect() {
         Ok(outcome) => {
-            let number = outcome.number();
+            let number = u8::from(outcome);
             format!(in heap; "outcome={number}\n")
         }
         Err(why) => refused(heap, why),

@@ -11,7 +11,7 @@ ghost use Rattle.end_bench.specs.Calls.{give_line, given, slip_given, bars_takin
 ghost use Rattle.end_bench.specs.Fair.{kept};
 
 use answers::print::{refused, wrong};
-use notation::hex::hex;
+use notation::hex::Hex;
 use packet::checks::Check;
 use script_words::fault::Fault;
 use secondary::station::DeliverySlip;
@@ -55,7 +55,7 @@ fn taken(heap: Global, message: &[u8], line: u8, buffer: u8) -> Result<String, A
     ensures { IfOk result (λ s. string_bytes s ≡ take_line (gave (length message.now, line, buffer)) message.now) }
 {
     let length = message.len();
-    let message = hex(heap, message)?;
+    let message = Hex::of(message);
     format!(in heap; "length={length} message={message} slip={line},{buffer}\n")
 }
 

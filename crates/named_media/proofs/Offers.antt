@@ -22,12 +22,12 @@ use Rattle.named_media.proofs.Layers.{Reached, Does, layered}
 memory_parts : {X : Type 0} (xs : List X) (n : ℕ) → length xs ≡ min (length xs) n + length (drop n xs)
 memory_parts xs n = simp length-drop (omega arith)
 
-pub same_memory : {X : Type 0} (r s : Ring X) → ring.places s ≡ ring.places r → ring.beyond s ≡ ring.beyond r → length (ring.memory s) ≡ length (ring.memory r)
-same_memory r s p b = memory_parts (ring.memory s) s.span.limit ∙ (λ i. p i + length (b i)) ∙ sym (memory_parts (ring.memory r) r.span.limit)
+pub same_memory : {X : Type 0} (r s : Ring X) → ring.InPlace r s → length (ring.memory s) ≡ length (ring.memory r)
+same_memory r s k = memory_parts (ring.memory s) s.span.limit ∙ (λ i. k.places i + length (k.beyond i)) ∙ sym (memory_parts (ring.memory r) r.span.limit)
 
 -- a ring over xs with up to n places
-pub memory_of : {X : Type 0} (r : Ring X) (xs : List X) (n : ℕ) → ring.places r ≡ min (length xs) n → ring.beyond r ≡ drop n xs → length (ring.memory r) ≡ length xs
-memory_of r xs n p b = memory_parts (ring.memory r) r.span.limit ∙ (λ i. p i + length (b i)) ∙ sym (memory_parts xs n)
+pub memory_of : {X : Type 0} (xs : List X) (n : ℕ) (r : Ring X) → ring.Over xs n r → length (ring.memory r) ≡ length xs
+memory_of xs n r o = memory_parts (ring.memory r) r.span.limit ∙ (λ i. o.places i + length (o.beyond i)) ∙ sym (memory_parts xs n)
 
 -- a burst that is carried
 when_carried : {A : Type 0} (c : Bool) (f : Bool → A) (x : A) → c ≡ true → x ≡ f c → x ≡ f true
@@ -40,7 +40,7 @@ queue_reached m m' b r e t =
       base = ap base.Queue t.kept.places;
       offers = refl;
       bursts = when_carried (carried b) (λ c. cond (c && queue.free m) (queue.queued m ++ b ∷ []) (queue.queued m)) _ e t.bursts;
-      size = same_memory m.ring m'.ring t.kept.places t.kept.beyond;
+      size = same_memory _ _ t.kept;
     }
 
 pub queue_offered : (m m' : QueueMedium) (p p' : ℕ) (b : List ℕ) (r : Offer) → Passes queue.TakesIn m p b r m' p' → Does (a_queue m p) (a_queue m' p') (length (queue.memory m)) (length (queue.memory m')) b r
@@ -55,7 +55,7 @@ packed_reached m m' b r e t =
       base = ap base.Packed t.kept.places;
       offers = refl;
       bursts = when_carried (carried b) (λ c. cond (c && packed.fits m b) (packed.carries m ++ b ∷ []) (packed.carries m)) _ e t.bursts ∙ ap (λ f. cond f (packed.carries m ++ b ∷ []) (packed.carries m)) fits;
-      size = same_memory m.ring m'.ring t.kept.places t.kept.beyond;
+      size = same_memory _ _ t.kept;
     }
 
 noisy_reached : (m m' : NoisyMedium) (b : List ℕ) (r : Offer) → carried b ≡ true → Sends m b r m' → Reached (base.Noisy (queue.places m.queue) m.pattern.bits) (base.Noisy (queue.places m'.queue) m'.pattern.bits) m.offers m'.offers (queue.queued m.queue) (queue.queued m'.queue) (length (queue.memory m.queue)) (length (queue.memory m'.queue)) b r
@@ -65,7 +65,7 @@ noisy_reached m m' b r e t =
       base = (λ i. base.Noisy (t.kept.places i) (when_carried (carried b) (λ c. cond c (turned m.pattern.bits) m.pattern.bits) _ e t.pattern i));
       offers = when_carried (carried b) (λ c. cond c ((m.offers + 1) % 2 ^ 32) m.offers) _ e t.offers;
       bursts = when_carried (carried b) (λ c. cond (c && queue.free m.queue) (queue.queued m.queue ++ sent m.pattern.bits m.offers b ∷ []) (queue.queued m.queue)) _ e t.bursts;
-      size = same_memory m.queue.ring m'.queue.ring t.kept.places t.kept.beyond;
+      size = same_memory _ _ t.kept;
     }
 
 pub packed_offered : (m m' : MutBor PackedMedium) (p p' : ℕ) (b : List ℕ) (r : Offer) → Passes (λ m b r n. packed.PacksIn m.now b r n.now) m p b r m' p' → Does (a_packed m.now p) (a_packed m'.now p') (length (ring.memory m.now.ring)) (length (ring.memory m'.now.ring)) b r

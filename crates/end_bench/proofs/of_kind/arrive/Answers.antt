@@ -10,4 +10,4 @@ use Rattle.end_bench.proofs.of_kind.arrive.Goals as goal
 pub returns-clause-printed : goal.returns-clause-printed
 returns-clause-printed g c =
     let e = c.arrive-result.ensures in
-    IfOk-weaker c.reported.result _ _ (λ s h. h ∙ placed_line g.K.Check.meaning [] (arrival g.K.Check.size g.K.Check.meaning (model c.args.end.now) c.args.burst.now) (answer told c.arrive-result.result) _ _ e.value e.placed) c.reported.ensures
+    IfOk-weaker c.reported.result _ _ (λ s h. h ∙ placed_line g.K.Check.meaning [] (arrival g.K.Check.LEN g.K.Check.meaning (model c.args.end.now) c.args.burst.now) (answer told c.arrive-result.result) _ _ e.value e.placed) c.reported.ensures

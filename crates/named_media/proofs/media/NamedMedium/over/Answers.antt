@@ -8,9 +8,7 @@ use Rattle.named_media.proofs.media.NamedMedium.over.Goals as goal
 
 pub returns : goal.returns
 returns c =
-    let q = c.over.ensures in
-    let n = c.over-4.ensures in
-    let for_queue = ap (λ m. length (queue.memory m)) c.over-2.ensures.medium ∙ memory_of c.over.result.ring c.args.queue.now 4096 q.places q.beyond in
+    let for_queue = ap (λ m. length (queue.memory m)) c.over-2.ensures.medium ∙ memory_of _ _ _ c.over.ensures.ring in
     let for_packed = ap (λ (m : MutBor PackedMedium). length (memory m.now.ring)) c.over-3.ensures.medium in
-    let for_noisy = ap (λ m. length (queue.memory m.queue)) c.over-5.ensures.medium ∙ memory_of c.over-4.result.queue.ring c.args.noisy.now 4096 n.places n.beyond in
+    let for_noisy = ap (λ m. length (queue.memory m.queue)) c.over-5.ensures.medium ∙ memory_of _ _ _ c.over-4.ensures.ring in
     λ i. named_by None (for_queue i) (for_packed i) (for_noisy i)
