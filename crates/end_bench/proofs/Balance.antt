@@ -1,5 +1,7 @@
 -- A call moves a slip and the delivery that is out together. Assumes nothing.
 use Rattle.std.proofs.Common.{◌≡◌, ℕ, Bool, true, false, cond, not, ◌&&◌, ◌||◌, eqb, ltb, ◌⊎◌, [], ◌∷◌, length, is_some, Some, None, Option, sym, refl, ap, ◌∙◌, inl, inr, arith}
+use Rattle.std.proofs.Math.Bool.{and-true}
+use Rattle.std.proofs.lemmas.Bool.{or_parts}
 use Rattle.std.proofs.lemmas.Bool.Decides.{nat_tests}
 use Rattle.packet.specs.Refusals.{Answer, refused, gave, ◌⇒◌, judged}
 use Rattle.primary.specs.Station as primary
@@ -24,14 +26,6 @@ none_of : {A : Type 0} (s : Option A) → is_some s ≡ false → s ≡ None
 none_of None e = refl
 none_of (Some x) e = let z : ◌≡◌ {A = ℕ} 0 1 = cc in absurd (omega arith)
 
-or_false : (a b : Bool) → a || b ≡ false → b ≡ false
-or_false true b e = let z : ◌≡◌ {A = ℕ} 0 1 = cc in absurd (omega arith)
-or_false false b e = e
-
-and_not : (a : Bool) → a && true ≡ false → a ≡ false
-and_not true e = e
-and_not false e = refl
-
 not_lent : (e : Named) → is_out e ≡ false → lent_of e ≡ None
 not_lent None h = refl
 not_lent (Some p) h = ap (λ o. cond o (Some (p.1.secondary.line, oldest_buffer p.1.secondary)) None) h
@@ -40,7 +34,7 @@ opening_balance : (b : Bool) (e : Named) (s : Option Slip) (l : ℕ) (k : Kind) 
     → Balanced (lent_of e) s (lent_of (cond b e (opened k (seen (station.opened l) a) e))) s
 opening_balance true e s l k a h = inl (refl, refl)
 opening_balance false e s l k (refused n) h = inl (refl, refl)
-opening_balance false e s l k (gave t) h = inl (sym (not_lent e (or_false (is_some s) (is_out e) h)), refl)
+opening_balance false e s l k (gave t) h = inl (sym (not_lent e (or_parts (is_some s) (is_out e) h).1), refl)
 
 -- the rules of the take: a short place, a delivery that is out, and none to take
 rules_balance : (t o z : Bool) (x : Station) (s : Option Slip) → x.out ≡ o → is_some s && not o ≡ false
@@ -49,7 +43,7 @@ rules_balance true o z x s e h = inl (refl, refl)
 rules_balance false true z x s e h = inl (refl, refl)
 rules_balance false false true x s e h = inl (refl, refl)
 rules_balance false false false x s e h =
-    inr (ap (λ o. cond o (Some (x.line, oldest_buffer x)) None) e ∙ sym (none_of s (and_not (is_some s) h)), refl)
+    inr (ap (λ o. cond o (Some (x.line, oldest_buffer x)) None) e ∙ sym (none_of s (sym (and-true (is_some s)) ∙ h)), refl)
 
 take_balance : (b : Bool) (x : End) (s : Option Slip) (n : ℕ) → bars_taking x s ≡ b
     → Balanced (lent_by x.secondary) s (lent_by (cond b x (station.with_secondary (or_kept (judged (ltb n 96 ⇒ 21 ∷ x.secondary.out ⇒ 22 ∷ eqb (length x.secondary.held) 0 ⇒ 23 ∷ []) (lent x.secondary)) x.secondary) x)).secondary) (cond b s (taken (judged (ltb n 96 ⇒ 21 ∷ x.secondary.out ⇒ 22 ∷ eqb (length x.secondary.held) 0 ⇒ 23 ∷ []) (length (oldest_of x.secondary.held), x.secondary.line, oldest_buffer x.secondary)) s))

@@ -1,5 +1,7 @@
 -- Slips stay fairly kept. Assumes nothing.
 use Rattle.std.proofs.Common.{◌≡◌, ℕ, Bool, true, false, ◌&&◌, ◌||◌, ◌⊎◌, Some, None, Option, sym, refl, ap, ◌∙◌, subst, inl, inr, arith}
+use Rattle.std.proofs.Math.Bool.{or-true}
+use Rattle.std.proofs.lemmas.Bool.{and_parts}
 use Rattle.std.proofs.lemmas.Bool.Decides.{nat_tests}
 use Rattle.end_script.specs.Calls as call
 use Rattle.end_bench.specs.Calls.{both_after}
@@ -26,32 +28,21 @@ same_self (Some p) = grind (arith, nat_tests)
 is_same : (s t : Option Slip) → s ≡ t → same s t ≡ true
 is_same s t e = subst (λ (v : Option Slip). same s v ≡ true) e (same_self s)
 
-either_pair : (a b c d : Bool) → (a && b) || (c && d) ≡ true → ((a ≡ true) × (b ≡ true)) ⊎ ((c ≡ true) × (d ≡ true))
-either_pair true true c d e = inl (refl, refl)
-either_pair true false true d e = inr (refl, e)
-either_pair true false false d e = inr (e, let z : ◌≡◌ {A = ℕ} 0 1 = cc in absurd (omega arith))
-either_pair false b true d e = inr (refl, e)
-either_pair false b false d e = inr (e, let z : ◌≡◌ {A = ℕ} 0 1 = cc in absurd (omega arith))
-
-first_pair : (a b c d : Bool) → a ≡ true → b ≡ true → (a && b) || (c && d) ≡ true
-first_pair a b c d e f = rw (e, f)
-
-second_pair : (a b c d : Bool) → c ≡ true → d ≡ true → (a && b) || (c && d) ≡ true
-second_pair true true c d e f = refl
-second_pair true false c d e f = rw (e, f)
-second_pair false b c d e f = rw (e, f)
+either : (x y : Bool) → x || y ≡ true → (x ≡ true) ⊎ (y ≡ true)
+either true y e = inl refl
+either false y e = inr e
 
 module _ (s t x y : Option Slip) where
   pub is_fair : fair s t x y ≡ true → Fair s t x y
   is_fair e =
-      elim (either_pair (same s x) (same t y) (same s y) (same t x) e) [
-        | inl h ↦ inl (same_is s x h.0, same_is t y h.1)
-        | inr h ↦ inr (same_is s y h.0, same_is t x h.1)
+      elim (either (same s x && same t y) (same s y && same t x) e) [
+        | inl h ↦ let p = and_parts (same s x) (same t y) h in inl (same_is s x p.0, same_is t y p.1)
+        | inr h ↦ let p = and_parts (same s y) (same t x) h in inr (same_is s y p.0, same_is t x p.1)
       ]
 
   fair_is : Fair s t x y → fair s t x y ≡ true
-  fair_is (inl h) = first_pair (same s x) (same t y) (same s y) (same t x) (is_same s x h.0) (is_same t y h.1)
-  fair_is (inr h) = second_pair (same s x) (same t y) (same s y) (same t x) (is_same s y h.0) (is_same t x h.1)
+  fair_is (inl h) = rw (is_same s x h.0, is_same t y h.1) refl
+  fair_is (inr h) = rw (is_same s y h.0, is_same t x h.1) (or-true (same s x && same t y))
 
 module _ (s t x y x' s' : Option Slip) where
   moved : Fair s t x y → Balanced x s x' s' → Fair s' t x' y

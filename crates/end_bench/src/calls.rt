@@ -159,7 +159,7 @@ fn open_as(
     Ok(report)
 }
 
-// Opens an end, unless a slip or a delivery bars it.
+// Opens an end, unless a slip or a delivery bars it. Line, kind and frame are no struct: each clause would name its fields.
 pub(crate) fn open(
     heap: Global,
     end: &mut Option<OpenEnd>,

@@ -6,7 +6,7 @@ use crate::named::OpenEnd;
 use secondary::station::DeliverySlip;
 
 // A slip that is kept is that of a delivery that is out: at the name's end, or at the other where that one's slip was given
-// to the first.
+// to the first. The four stand side by side, since a call is lent one end and one slip, not always of the same name.
 pub struct Ends {
     a: Option<OpenEnd>,
     b: Option<OpenEnd>,

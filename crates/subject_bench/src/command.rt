@@ -37,8 +37,6 @@ fn parse_after<'a>(subject: &[u8], words: Arguments<'a>) -> Result<Command<'a>, 
     match subject {
         b"settings" => Ok(Command::Settings(parse_settings(words)?)),
         b"end" => Ok(Command::End(parse_end(words)?)),
-        _ => Ok(Command::PacketOrMedium(
-            script::command::parse_after(subject, words)?,
-        )),
+        _ => Ok(Command::PacketOrMedium(script::command::parse_after(subject, words)?)),
     }
 }
