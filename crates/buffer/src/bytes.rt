@@ -16,7 +16,8 @@ impl<const N: usize> Buffer<N> {
         }
     }
 
-    // A buffer of these bytes; none where they are more than N.
+    // A buffer of these bytes; none where they are more than N, which each caller has its own refusal for. The copy is by index:
+    // of a slice from `get_mut` a proof knows the length alone.
     pub fn from_slice(bytes: &[u8]) -> Option<Self>
         ensures { option_map contents result ≡ (if nat_le (length bytes.now) N then Some bytes.now else None) }
     {

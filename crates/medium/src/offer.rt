@@ -1,4 +1,5 @@
-// What an offer answers: the burst is under way as it is; or it is not, or has a byte altered.
+// What an offer answers: the burst is under way as it is; or it is not, or has a byte altered. No Result: spoilt is no error
+// that a caller hands on, and a `From<bool>` would say less plainly which is which.
 ghost use Rattle.std.specs.Prelude.{Some};
 ghost use Rattle.medium.specs.Offered.{name_of};
 

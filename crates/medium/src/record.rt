@@ -35,7 +35,7 @@ impl Burst {
         self.bytes.copy_to(place)
     }
 
-    // The second byte, or 0 where there is none.
+    // The second byte; 0 stands for none and is no letter: an Option would be no plainer, as `some_letter` reads 0 too.
     pub(crate) fn letter(&self) -> u8
         ensures { result ≡ slice_index (bytes_of self.now) 1 }
     {

@@ -13,7 +13,7 @@ pub trait Check {
     ghost meaning: { List ℕ → List ℕ };
 
     // The check bytes of `covered` come first in the answer, then zeros. Five always: no array has an associated constant for
-    // its length.
+    // its length, and a buffer would bear a second length beside LEN.
     fn check(covered: &[u8]) -> [u8; 5]
         ensures { result ≡ padded LEN (meaning covered.now) };
 

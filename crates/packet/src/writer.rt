@@ -9,6 +9,7 @@ use crate::letter::Letter;
 use crate::reader::{ETX, STX};
 use crate::refusal::Refusal;
 
+// A letter and a field come apart, not as a `Packet`: a caller may give a byte that is no letter.
 // Writes the packet of a letter and a field to the front of `out` and tells its length, or refuses with 3, 4, 5 or 29.
 pub fn write<K: Check>(letter: u8, field: &[u8], out: &mut [u8]) -> Result<usize, Refusal>
     ensures value { answer (λ n. n) result ≡ writing K.LEN letter field.now (length out.old) }

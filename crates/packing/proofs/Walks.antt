@@ -1,7 +1,8 @@
 -- Steps that empty and read a row of bytes.
-use Rattle.std.proofs.Common.{◌≡◌, ℕ, zero, suc, ◌+◌, ◌*◌, ◌<◌, ◌≤◌, List, [], ◌∷◌, ◌++◌, length, get_or, take, drop, set, Some, None, Option, unwrap_or, sym, refl, ap, ◌∙◌, subst, append_assoc, arith}
+use Rattle.std.proofs.Common.{◌≡◌, ℕ, ◌+◌, ◌*◌, ◌<◌, ◌≤◌, List, [], ◌∷◌, ◌++◌, length, get_or, take, drop, set, Some, Option, unwrap_or, sym, ap, ◌∙◌, subst, append_assoc, arith}
 use Rattle.std.specs.List.{slice_get}
 use Rattle.std.proofs.lemmas.List.{take_more, drop_more, drop-drop, length-drop, set_at, length-take-le, get_or-take, get_or-drop}
+use Rattle.std.proofs.lemmas.Option.{unwrap_or-slice_get}
 use Rattle.packing.specs.Rowed.{unpacked, Packs, lying, Lies}
 use Rattle.packing.proofs.Rowed.{two_bytes, read}
 
@@ -9,10 +10,6 @@ use Rattle.packing.proofs.Rowed.{two_bytes, read}
 pub taken : (xs ys : List ℕ) (x : ℕ) → Some x ≡ slice_get xs 0 → ys ≡ drop 1 xs → xs ≡ x ∷ ys
 taken [] ys x e q = absurd (let z : ◌≡◌ {A = ℕ} 0 1 = cc in omega arith)
 taken (y ∷ xs) ys x e q = let i : x ≡ y = cc in ap (λ z. z ∷ xs) (sym i) ∙ ap (λ zs. x ∷ zs) (sym q)
-
-pub none_left : (xs : List ℕ) → None ≡ slice_get xs 0 → length xs ≡ 0
-none_left [] e = refl
-none_left (y ∷ xs) e = absurd (let z : ◌≡◌ {A = ℕ} 0 1 = cc in omega arith)
 
 -- one byte taken out, and written behind those before it
 pub take_step : (xs ys zs : List ℕ) (i b : ℕ) → i < length xs → ys ≡ drop i xs → zs ≡ drop 1 ys → zs ≡ drop (i + 1) xs
@@ -31,13 +28,8 @@ write_step xs p ys i b h l e s =
     ∙ ap (λ z. z ++ drop (i + 1) p) (sym (take_more xs i 0 h))
 
 -- a byte that was looked at
-pub looked : (xs : List ℕ) (k x : ℕ) (r : Option ℕ) → r ≡ slice_get xs k → x ≡ unwrap_or r 0 → x ≡ get_or xs k 0
-looked xs k x r e q = q ∙ ap (λ o. unwrap_or o 0) e ∙ go xs k
-  where
-    go : (ys : List ℕ) (i : ℕ) → unwrap_or (slice_get ys i) 0 ≡ get_or ys i 0
-    go [] i = refl
-    go (y ∷ ys) zero = refl
-    go (y ∷ ys) (suc i) = go ys i
+pub looked : (xs : List ℕ) (k x : ℕ) (r : Option ℕ) → r ≡ slice_get xs k → r ≡ Some x → x ≡ get_or xs k 0
+looked xs k x r e q = ap (λ o. unwrap_or o 0) (sym q ∙ e) ∙ unwrap_or-slice_get xs k 0
 
 pub lies : (xs : List ℕ) (at h l n : ℕ) → Packs (drop at xs) → at < length xs → h ≡ get_or xs at 0 → l ≡ get_or xs (at + 1) 0 → n ≡ h * 256 + l → Lies xs at n
 lies xs at h l n p lt eh el en =

@@ -7,8 +7,8 @@ use crate::packed::PackedMedium;
 use ring::Ring;
 
 // From byte `at` to the end there are bursts, each after its length, and nothing else. The letter
-// of a burst is its second byte, or 0 where it has none. It goes by places, and not over the
-// bytes one by one, so that a step passes a whole burst.
+// of a burst is its second byte; 0 stands for none and is no letter, as in `some_letter`.
+// Steps by `at`, and not over the bytes one by one, since a step passes a whole burst.
 #[derive(Drop)]
 pub(crate) struct Letters<'r, 'a> {
     ring: &'r Ring<'a, u8>,
@@ -45,8 +45,8 @@ impl<'r, 'a> Letters<'r, 'a> {
         requires { self.now.at < self.now.end }
         ensures { Lies (elements self.now.ring.now) self.now.at result }
     {
-        let high = self.ring.look(self.at).unwrap_or(0);
-        let low = self.ring.look(self.at + 1).unwrap_or(0);
+        let high = self.ring.look(self.at).unwrap();
+        let low = self.ring.look(self.at + 1).unwrap();
         u16::from_be_bytes([high, low]) as usize
     }
 
@@ -56,7 +56,7 @@ impl<'r, 'a> Letters<'r, 'a> {
         ensures { result ≡ slice_index (lying (elements self.now.ring.now) self.now.at len) 1 }
     {
         if len > 1 {
-            self.ring.look(self.at + 3).unwrap_or(0)
+            self.ring.look(self.at + 3).unwrap()
         } else {
             0
         }

@@ -14,6 +14,7 @@ use ring::Ring;
 // The most bytes of a packed medium, lengths counted.
 pub const PACKED_LIMIT: usize = 65536;
 
+// `over` and `restart` are those of a queue in shape alone: each states what its own ring holds.
 impl<'a> PackedMedium<'a> {
     // A packed medium with nothing under way, in memory that its user lends. Memory beyond the
     // limit is never written.

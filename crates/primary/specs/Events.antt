@@ -1,5 +1,5 @@
 -- Steps as data. Assumes nothing.
-use Rattle.std.specs.Prelude.{Some, None}
+use Rattle.std.specs.Prelude.{Some}
 use Rattle.packet.specs.declared.number.Number.{Number}
 use Rattle.primary.specs.declared.event.Command.TheVariants as commands
 use Rattle.primary.specs.declared.event.Timer.TheVariants as timers
@@ -8,9 +8,6 @@ use Rattle.primary.specs.declared.outcome.Tally.{Tally}
 
 abbrev pub no_outcome : Tally
 no_outcome = record { arrived = 0; given_up = 0; no_connection = 0 }
-
-abbrev pub still : Step
-still = record { sent = None; timer = None; tally = no_outcome }
 
 abbrev pub asks_again : Step
 asks_again = record { sent = Some commands.Enq; timer = Some timers.Enq; tally = no_outcome }

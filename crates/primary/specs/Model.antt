@@ -3,7 +3,7 @@ use Rattle.std.specs.Prelude.{◌<◌, List, [], drop, Some, None, Option, slice
 use Rattle.std.specs.Option.{option_map}
 use Rattle.primary.specs.declared.event.Event.{Event}
 use Rattle.primary.specs.declared.event.Event.TheVariants as event
-use Rattle.primary.specs.declared.event.Command.{Command as Sent}
+use Rattle.primary.specs.declared.event.Command.{Command as StationCommand}
 use Rattle.primary.specs.declared.event.Command.TheVariants as sent
 use Rattle.primary.specs.declared.event.Step.{Step}
 use Rattle.primary.specs.declared.station.State.{State}
@@ -40,7 +40,7 @@ heard (event.Ack n k) = ack (is_one n) k
 heard event.Timeout = timeout
 
 -- DATA carries the current message
-abbrev pub command : Option Sent → Option Message → Option Command
+abbrev pub command : Option StationCommand → Option Message → Option Command
 command None m = None
 command (Some sent.Enq) m = Some ENQ
 command (Some (sent.Data n)) m = option_map (DATA (is_one n)) m

@@ -6,7 +6,7 @@ use buffer::Buffer;
 
 pub mod ring;
 
-// A message, and what became of it once that is known.
+// A message, and what became of it once that is known; no Option, as the table's counts say already where it is known.
 #[derive(Clone, Copy)]
 pub struct SendBuffer {
     message: Buffer<96>,
@@ -14,7 +14,7 @@ pub struct SendBuffer {
 }
 
 // Eight buffers in a ring: from `head` on `done` whose outcome is not collected, then up to `used` those without outcome.
-// Not by `ring::slots`, which has no function that writes an outcome into a record in the middle.
+// A table inside the station (a rule of the project), not `ring::slots`, which writes no outcome into a record in the middle.
 #[derive(Clone, Copy)]
 pub struct SendBuffers {
     buffers: [SendBuffer; 8],

@@ -52,7 +52,8 @@ impl<'a, T: Copy> Ring<'a, T> {
         self.span.within(self.slots.len()).len
     }
 
-    // Adds x as the newest element; false where no place is free.
+    // Adds x as the newest element; false where no place is free. A bool and no Result: x is a copy,
+    // so there is nothing to hand back.
     pub fn put(&mut self, x: T) -> bool
         ensures test { result ≡ nat_lt (length (elements self.old)) (places self.old) }
         ensures after { elements self.new ≡ (if result then elements self.old ++ x ∷ [] else elements self.old) }
@@ -80,8 +81,8 @@ impl<'a, T: Copy> Ring<'a, T> {
         oldest
     }
 
-    // Takes the oldest element of the memory out of a span of it. Tried in `take` itself: the borrow
-    // checker does not cover `slots` lent as `&` beside `span` lent as `&mut`.
+    // Takes the oldest element of the memory out of a span of it. Tried in `take` itself: that the
+    // slice is the same after it was lent there as `&` stays open (`returns-clause-after`).
     fn take_from(&self, span: &mut Span) -> Option<T>
         ensures value { result ≡ slice_get (held self.now.slots.now span.old) 0 }
         ensures after { held self.now.slots.now span.new ≡ drop 1 (held self.now.slots.now span.old) }

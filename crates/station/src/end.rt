@@ -10,8 +10,8 @@ use secondary::station::Secondary;
 use settings::values::Settings;
 
 // Every message without outcome can be sent: its submission was not refused. The attempt limit came from a settings frame.
-// From that limit follows what three calls promise as `in_time`. It stays in their contracts: as a ghost field it would be
-// no plainer, since each change of an end would prove it again, and callers read clauses.
+// From that limit follows what three calls promise as `in_time`: a ghost field of it would be no plainer, it would only say
+// the limit again.
 // The definition `model` is no impl of Model: a refused call leaves each field the same, which equal views would not say.
 #[derive(Drop)]
 pub struct End<K: Check> {

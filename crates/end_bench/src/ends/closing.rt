@@ -47,15 +47,11 @@ fn give_to_one(a: &mut Option<OpenEnd>, b: &mut Option<OpenEnd>, slip: Option<De
     requires { Fits (kept slip) (lent (open_end a.old)) (lent (open_end b.old)) }
     ensures { GivenToOne (kept slip) (lent (open_end a.old)) (lent (open_end b.old)) (lent (open_end a.new)) (lent (open_end b.new)) }
 {
-    match slip {
-        None => {}
-        Some(slip) => match give_back(a, slip) {
-            Ok(()) => {}
-            Err(slip) => match give_back(b, slip) {
-                Ok(()) => {}
-                Err(_slip) => unreachable(),
-            },
-        },
+    let Some(slip) = slip else {
+        return;
+    };
+    if let Err(slip) = give_back(a, slip) {
+        give_back(b, slip).unwrap();
     }
 }
 

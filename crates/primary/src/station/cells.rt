@@ -23,7 +23,7 @@ const ARRIVAL: Tally = Tally {
     no_connection: 0,
 };
 
-// What a cell needs stays a `requires`: a guard over `&mut Primary` would have to keep its ghost field, and giving up ends it.
+// What a cell needs stays a `requires`: a guard over `&mut Primary` with it as a ghost field is no plainer, as giving up ends it.
 impl Primary {
     fn ask(&mut self) -> Step
         ensures { did self.new result ≡ asks (model self.old).phase (model self.old) }

@@ -24,7 +24,7 @@ impl Deliveries {
         self.held as u8
     }
 
-    // The number of the oldest buffer, by that of the next one.
+    // The number of the oldest buffer, as the station's model works it out.
     #[tactic(auto, using(buffer::proofs::Turns::length_turns))]
     pub(crate) fn oldest(&self) -> u8
         ensures { result ≡ (next_buffer self.now + 8 - length (messages self.now)) % 8 }

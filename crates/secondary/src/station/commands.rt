@@ -12,7 +12,8 @@ use buffer::Buffer;
 use packet::number::Number;
 use packet::refusal::Refusal;
 
-// A message that a buffer takes: one of 1 to 96 bytes.
+// A message that a buffer takes: one of 1 to 96 bytes. The primary station's test goes on from here to the bytes; the two
+// lines that both have are no plainer as a call.
 fn storable(message: &[u8]) -> Result<Buffer<96>, Refusal>
     ensures { answer contents result ≡ judged (message_rules message.now) message.now }
 {
@@ -50,10 +51,10 @@ impl Secondary {
         if free == 0 {
             return None;
         }
-        Some(match self.last {
-            None => Answer::Reset,
-            Some(number) => Answer::Ack(number, free),
-        })
+        Some(
+            self.last
+                .map_or(Answer::Reset, |number| Answer::Ack(number, free)),
+        )
     }
 
     // DATA: stores the message and acknowledges it; ignored while no buffer is free.

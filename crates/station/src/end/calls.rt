@@ -1,6 +1,5 @@
 // What an end sends, and what its primary station hears.
 ghost use Rattle.std.specs.Prelude.{◌≡◌, ◌-◌, true, ◌++◌, length, drop, OnErr, slice_index};
-ghost use Rattle.std.specs.Option.{option_map};
 ghost use Rattle.packet.specs.Bytes.{byte_of};
 ghost use Rattle.packet.specs.Format.{packet};
 ghost use Rattle.packet.specs.Letters.{fits, allowed};
@@ -94,15 +93,17 @@ impl<K: Check> End<K> {
         ensures value { told result ≡ telling K.Check.meaning (by_secondary (model self.now) (secondary_model self.now.secondary) answer) }
         ensures placed { place.new ≡ written_over (burst K.Check.meaning (answer_parts answer)) place.old }
     {
+        let Some(answer) = answer else {
+            return Report::default();
+        };
         let sent = match answer {
-            Some(Answer::Reset) => Some(send::<K>(Letter::Reset, &[], place)),
-            Some(Answer::Ack(number, credit)) => {
-                Some(send::<K>(Letter::Ack(number), &[0x30 + credit], place))
+            Answer::Reset => send::<K>(Letter::Reset, &[], place),
+            Answer::Ack(number, credit) => {
+                send::<K>(Letter::Ack(number), &[0x30 + credit], place)
             }
-            None => None,
         };
         Report {
-            sent,
+            sent: Some(sent),
             ..Report::default()
         }
     }

@@ -7,7 +7,7 @@ pub returns : goal.returns
 returns c =
     let it = c.args.self.now in
     let xs = elements it.ring.now in
-    lies xs it.at c.unwrap_or-high.result c.unwrap_or-low.result c.from_be_bytes.result it.packs (omega (arith, it.all, c.requires))
-    (looked xs it.at c.unwrap_or-high.result c.look.result c.look.ensures c.unwrap_or-high.ensures)
-    (looked xs (it.at + 1) c.unwrap_or-low.result c.look-2.result c.look-2.ensures c.unwrap_or-low.ensures)
+    lies xs it.at c.unwrap-high.result c.unwrap-low.result c.from_be_bytes.result it.packs (omega (arith, it.all, c.requires))
+    (looked xs it.at c.unwrap-high.result c.look.result c.look.ensures c.unwrap-high.ensures)
+    (looked xs (it.at + 1) c.unwrap-low.result c.look-2.result c.look-2.ensures c.unwrap-low.ensures)
     c.from_be_bytes.ensures
