@@ -25,12 +25,9 @@ impl<'a> fmt::Display for PlacedBurst<'a> {
     ghost output = { λ burst. Some (burst_text burst.bytes.now) };
 
     fn fmt<W: fmt::Write>(&self, f: &mut fmt::Formatter<W>) -> fmt::Result {
-        write!(
-            f,
-            "length={} burst={}",
-            self.bytes.len(),
-            Hex::of(self.bytes)
-        )
+        let length = self.bytes.len();
+        let burst = Hex::of(self.bytes);
+        write!(f, "length={length} burst={burst}")
     }
 }
 
