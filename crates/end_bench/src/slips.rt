@@ -18,7 +18,7 @@ use secondary::station::DeliverySlip;
 use station::end::End;
 use std::alloc::{AllocError, Global};
 
-// Keeps a slip where none is kept.
+// Keeps a slip where none is kept. No plain assignment: a slip that was there could not be let go.
 fn keep(place: &mut Option<DeliverySlip>, slip: DeliverySlip)
     requires { place.old ≡ None }
     ensures { place.new ≡ Some slip }

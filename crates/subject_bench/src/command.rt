@@ -19,7 +19,8 @@ pub enum Command<'a> {
     PacketOrMedium(script::command::Command<'a>),
 }
 
-// What a line, without its end, asks for, if it asks for anything.
+// What a line, without its end, asks for, if it asks for anything. In shape it is script's `parse`: with the step that differs
+// as a closure it would have a `requires`, which no public call has.
 pub fn parse(line: &[u8]) -> Result<Option<Command<'_>>, Fault>
     ensures { asked (option_map request) result ≡ command_of line.now }
 {

@@ -20,7 +20,8 @@ pub struct Workbench<'a, 'p> {
     pub media: Media<'a, 'p>,
 }
 
-// What is printed for a line, with or without its end: no bytes where nothing is asked.
+// What is printed for a line, with or without its end: no bytes where nothing is asked. In shape it is bench's `run_line`: with
+// the steps that differ as closures it would have a `requires`, which no public call has.
 pub fn run_line(
     heap: Global,
     bench: &mut Workbench<'_, '_>,
