@@ -18,7 +18,7 @@ use noise::lossy::LossyMedium;
 use noise::noisy::NoisyMedium;
 use packing::packed::PackedMedium;
 
-#[derive(Clone, Copy)]
+#[derive(Clone, Copy, Debug, PartialEq, Eq)]
 pub enum MediumKind {
     Queue,
     Packed,

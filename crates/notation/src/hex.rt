@@ -39,7 +39,7 @@ pub fn are_pairs(word: &[u8]) -> bool
     are_digits(word) && !word.is_empty() && word.len() % 2 == 0
 }
 
-// The bytes that pairs of digits stand for.
+// The bytes that pairs of digits stand for. By a slice pattern: chunks with a collect that can fail would be no plainer.
 #[tactic(auto, using(crate::proofs::Pairs::decoded_more))]
 pub fn decode(heap: Global, pairs: &[u8]) -> Result<Vec<u8>, AllocError>
     ensures { IfOk result (λ v. v.items ≡ decoded pairs.now) }

@@ -17,7 +17,7 @@ fn put_all(ring: &mut Ring<'_, u8>, bytes: &[u8])
     }
 }
 
-// Adds a burst after its length; false and nothing added where the two do not fit.
+// Adds a burst after its length; false and nothing added where the two do not fit (a bool, as for `Ring::put`).
 pub(crate) fn pack(ring: &mut Ring<'_, u8>, burst: &[u8]) -> bool
     requires { Carried burst.now }
     ensures value { result ≡ nat_le (length (elements ring.old) + (2 + length burst.now)) (places ring.old) }

@@ -49,7 +49,8 @@ impl Span {
     }
 }
 
-// Adds x as the newest element; false where no place is free.
+// Adds x as the newest element; false where no place is free (a bool, as for `Ring::put`). That it keeps `limit` is said here
+// and of `take`: these alone change a span.
 pub fn put<T: Copy>(slots: &mut [T], span: &mut Span, x: T) -> bool
     ensures test { result ≡ nat_lt (length (held slots.old span.old)) (room slots.old span.old) }
     ensures after { held slots.new span.new ≡ (if result then held slots.old span.old ++ x ∷ [] else held slots.old span.old) }

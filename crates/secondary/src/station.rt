@@ -11,7 +11,8 @@ pub struct DeliverySlip {
     buffer: u8,
 }
 
-// `last` is the number of the last ACK, none while the last answer is RESET. `out` says that the oldest delivery is out.
+// `last` is the number of the last ACK, none while the last answer is RESET. `out` says that the oldest
+// delivery is out: an Option of its number would say a second time which is the oldest.
 // No `impl Model`: `≡` would then compare models, and a refused call leaves the whole station as it was.
 #[derive(Drop)]
 pub struct Secondary {

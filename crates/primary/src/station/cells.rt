@@ -23,6 +23,8 @@ const ARRIVAL: Tally = Tally {
     no_connection: 0,
 };
 
+// `unchanged` speaks of a call and not of a value, so it stands at each. An ACK's number and credit come apart, as `Event::Ack`
+// has them: a struct of both would be no plainer, as each cell takes it apart.
 // What a cell needs stays a `requires`: a guard over `&mut Primary` with it as a ghost field is no plainer, as giving up ends it.
 impl Primary {
     fn ask(&mut self) -> Step

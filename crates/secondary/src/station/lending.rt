@@ -1,4 +1,4 @@
-// Taking a delivery and giving it back.
+// Taking a delivery and giving it back. `unchanged` speaks of a call and not of a value, so it stands at each.
 ghost use Rattle.std.specs.Prelude.{◌≡◌, length, IfOk, OnErr};
 ghost use Rattle.packet.specs.Refusals.{answer, judged};
 ghost use Rattle.secondary.specs.Laws.{StaysOut};

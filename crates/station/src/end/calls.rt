@@ -1,4 +1,4 @@
-// What an end sends, and what its primary station hears.
+// What an end sends and hears. `unchanged` speaks of a call and not of a value, so it stands at each.
 ghost use Rattle.std.specs.Prelude.{◌≡◌, ◌-◌, true, ◌++◌, length, drop, OnErr, slice_index};
 ghost use Rattle.packet.specs.Bytes.{byte_of};
 ghost use Rattle.packet.specs.Format.{packet};
