@@ -1,4 +1,5 @@
-// What is printed for single lines; the expected answers are those of docs/WORKBENCH.md.
+// What is printed for single lines; the expected answers are those of docs/WORKBENCH.md. The lines are those of script_tests,
+// whose parse knows packets and media alone.
 use subject_bench::command::parse;
 use std::alloc::{AllocError, Global};
 

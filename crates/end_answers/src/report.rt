@@ -31,7 +31,8 @@ impl fmt::Display for Started {
     }
 }
 
-// The letter that was sent, if any.
+// The letter that was sent, if any. A type of its own, as the timer below: the text of an OrNone is an Option in clauses, and
+// the proof of a format over it goes by its cases.
 #[derive(Clone, Copy)]
 struct SentLetter(Option<Letter>);
 

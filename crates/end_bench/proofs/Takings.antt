@@ -13,9 +13,6 @@ module _ (s : Station) (n l b : ℕ) (place after : List ℕ) (told : gave (n, l
   rules_passed : Passed (take_rules (length place) s)
   rules_passed = (passed (take_rules (length place) s) _ _ told).0
 
-  pub not_out : s.out ≡ false
-  not_out = rules_passed.1.0
-
   length_is : n ≡ length (oldest_of s.held)
   length_is = ap (λ t. t.0) (sym (passed (take_rules (length place) s) _ _ told).1)
 

@@ -13,12 +13,12 @@ use Rattle.end_bench.specs.declared.named.OpenEnd.TheVariants.{Sum, Xor}
 abbrev pub Named : Type 0
 Named = Option (Kind × End)
 
-abbrev pub end_of : OpenEnd → Kind × End
-end_of (Sum e) = (kind.Sum, model e)
-end_of (Xor e) = (kind.Xor, model e)
+abbrev pub kind_and_end : OpenEnd → Kind × End
+kind_and_end (Sum e) = (kind.Sum, model e)
+kind_and_end (Xor e) = (kind.Xor, model e)
 
 abbrev pub open_end : Option OpenEnd → Named
-open_end e = option_map end_of e
+open_end e = option_map kind_and_end e
 
 -- the check bytes by a kind; both have one
 abbrev pub check : Kind → List ℕ → List ℕ

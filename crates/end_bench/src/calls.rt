@@ -132,8 +132,7 @@ pub(crate) fn state(heap: Global, end: &Option<OpenEnd>) -> Result<String, Alloc
 }
 
 // Opens an end of a kind; one that the name had is gone, unless this is refused.
-// The kind is a type in each arm alone: a trait's method from an end to an open one gets no generated proof, since the
-// type of an end has a bound with ghost members.
+// No trait's method from an end to an open one: a type with a bound whose trait has ghost members gets no generated proof.
 fn open_as(
     end: &mut Option<OpenEnd>,
     line: u8,

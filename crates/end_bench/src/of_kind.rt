@@ -13,6 +13,7 @@ use packet::checks::Check;
 use station::end::End;
 use std::alloc::{AllocError, Global};
 
+// One function for each call: over a closure the contract would be the closure's, and not that of the call.
 pub(crate) fn submit<K: Check>(
     heap: Global,
     end: &mut End<K>,

@@ -109,7 +109,7 @@ pub fn parse_end(mut words: Arguments<'_>) -> Result<EndCommand<'_>, Fault>
 }
 
 // The call that a word names, with its own arguments.
-// A match on nine byte strings, with a branch for each byte, leaves its last arm unproved.
+// Tried as a match on nine byte strings: its last arm stays open, as the search gave up at one of its limits.
 fn call_after<'a>(word: &[u8], name: Name, words: &mut Arguments<'a>) -> Result<EndCall<'a>, Fault>
     ensures { told call_of result words.new.rest.now ≡ call_after word.now name words.old.rest.now }
 {

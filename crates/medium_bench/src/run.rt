@@ -1,6 +1,6 @@
 // Carrying out a medium command.
 ghost use Rattle.std.specs.Prelude.{◌≡◌, IfOk, string_bytes};
-ghost use Rattle.medium_script.specs.Calls.{Command, offer, take};
+ghost use Rattle.medium_script.specs.Calls.{offer, take};
 ghost use Rattle.medium_script.specs.Told.{call_of, command_of};
 ghost use Rattle.script_words.specs.Told.{bytes_of};
 ghost use Rattle.named_media.specs.Model.{model, models};

@@ -76,8 +76,7 @@ impl<'a, 'p> NamedMedium<'a, 'p> {
         }
     }
 
-    // Each call is a match of three types of media: through one `&mut dyn Medium` nothing would be known of places, patterns
-    // and counts.
+    // Each call matches three types: through a `&mut dyn Medium` nothing would be known of places, patterns and counts.
 
     // Offers a burst; none where no medium is made.
     pub fn offer(&mut self, burst: &[u8]) -> Option<Offer>

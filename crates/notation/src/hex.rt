@@ -61,7 +61,7 @@ pub fn pattern(word: &[u8]) -> Option<u32>
     if word.is_empty() || word.len() > 8 {
         return None;
     }
-    // No fold: its closure would have to be safe for any bits, and they fit only along this loop.
+    // A `for`, not a fold: that the bits fit is known along the loop alone.
     let mut bits = 0u32;
     for c in word {
         bits = bits * 16 + u32::from(digit(*c)?);

@@ -59,6 +59,7 @@ impl<'a> Arguments<'a> {
         self.take_word().ok_or(Fault::TooFewWords)
     }
 
+    // Not one generic read of an argument: its clause would be the relation `try_from_gives`, and this one is an equation.
     pub fn kind(&mut self) -> Result<Kind, Fault>
         ensures { told (λ k. k) result self.new.rest.now ≡ argument kind fault.Kind self.old.rest.now }
     {

@@ -3,22 +3,25 @@ ghost use Rattle.std.specs.Prelude.{◌≡◌, None, Ok, OnOk};
 ghost use Rattle.workbench_program.specs.Ends.{StaysKnown, Ended};
 
 use notation::words::trimmed;
-use std::alloc::{AllocError, Global};
+use std::alloc::Global;
 use std::io;
 use std::io::{BufRead, ErrorKind};
 
-// Takes the next line into `line`; none at the end of the input. A line that there was no memory for is passed over.
+// There was no memory for a line, and it was passed over.
+#[derive(Clone, Copy, Debug, PartialEq, Eq)]
+pub(crate) struct TooLong;
+
+// Takes the next line into `line`; none at the end of the input. A line that there is no memory for is passed over.
 pub(crate) fn take_line<R: BufRead>(
     heap: Global,
     input: &mut R,
     line: &mut Vec<u8>,
-) -> io::Result<Option<Result<(), AllocError>>>
+) -> io::Result<Option<Result<(), TooLong>>>
     ensures known { OnOk result (StaysKnown (R.Read.remaining input.old) (R.Read.remaining input.new)) }
     ensures end { result ≡ Ok None → Ended (R.Read.remaining input.old) (R.Read.remaining input.new) }
 {
     line.clear();
-    // The input's length bounds the turns, and no type knows it: each drops spaces in front of the first word, which say
-    // nothing, where memory had room for no more.
+    // No type knows the input's length, which bounds the turns: each drops spaces, which say nothing, that filled the memory.
     for _ in 0..u64::MAX {
         match input.read_until(b'\n', line) {
             Ok(0) => return Ok(None),
@@ -30,7 +33,7 @@ pub(crate) fn take_line<R: BufRead>(
             let is_comment = line.first() == Some(&b'#');
             *line = Vec::new(heap);
             input.skip_until(b'\n')?;
-            return Ok(Some(if is_comment { Ok(()) } else { Err(AllocError) }));
+            return Ok(Some(if is_comment { Ok(()) } else { Err(TooLong) }));
         }
         line.clear();
     }

@@ -1,6 +1,5 @@
 // Memory for the media, which serves as long as the program runs.
-// A program lends its packed media to the names: a function that made the media of both names here would answer a Result
-// that holds a `&mut` to a packed medium, which holds one itself, and gets no generated proof.
+// No function makes the media of both names: a Result with a `&mut` to a packed medium, itself a borrower, gets no proof.
 ghost use Rattle.std.specs.Prelude.{◌≡◌, [], length, IfOk};
 ghost use Rattle.packing.specs.Packed.{carries};
 ghost use Rattle.ring.specs.Ring.{places};

@@ -1,14 +1,15 @@
 // Answering a script.
-ghost use Rattle.std.specs.Prelude.{◌≡◌, ℕ, List, IfOk, OnOk, string_bytes};
+ghost use Rattle.std.specs.Prelude.{◌≡◌, ℕ, List, IfOk, IfSome, OnOk, string_bytes};
 ghost use Rattle.workbench_program.specs.Ends.{Ended};
 
-use crate::lines::take_line;
+use crate::lines::{TooLong, take_line};
 use answers::print::out_of_memory;
 use std::alloc::{AllocError, Global};
 use std::io;
 use std::io::{BufRead, ErrorKind, Write};
 
-// What answers the lines of a script.
+// What answers the lines of a script. No FnMut: a loop that calls one requires that it may be called again, and no public call
+// requires anything.
 pub trait Bench {
     // What is printed for a line.
     ghost printed: { Self → List ℕ → List ℕ };
@@ -17,17 +18,17 @@ pub trait Bench {
         ensures { IfOk result (λ s. string_bytes s ≡ printed self.old line.now) };
 }
 
-// The answer to a line that was taken, if there was memory for it.
+// The answer to a line that was taken; none where there was no memory for the line or for its answer.
 fn answer<B: Bench>(
     heap: Global,
     bench: &mut B,
-    taken: Result<(), AllocError>,
+    taken: Result<(), TooLong>,
     line: &[u8],
-) -> Result<String, AllocError>
-    ensures { IfOk result (λ s. string_bytes s ≡ B.printed bench.old line.now) }
+) -> Option<String>
+    ensures { IfSome result (λ s. string_bytes s ≡ B.printed bench.old line.now) }
 {
-    taken?;
-    bench.run_line(heap, line)
+    taken.ok()?;
+    bench.run_line(heap, line).ok()
 }
 
 // Answers each line of the input, until it ends.
@@ -46,8 +47,8 @@ pub fn answer_lines<R: BufRead, W: Write, B: Bench>(
             return Ok(());
         };
         match answer(heap, bench, taken, &line) {
-            Ok(answer) => output.write_all(answer.as_bytes())?,
-            Err(AllocError) => output.write_all(out_of_memory().as_bytes())?,
+            Some(answer) => output.write_all(answer.as_bytes())?,
+            None => output.write_all(out_of_memory().as_bytes())?,
         }
     }
     Err(io::Error::from(ErrorKind::Other))
