@@ -1,5 +1,5 @@
 // The bytes of a buffer.
-ghost use Rattle.std.specs.Prelude.{◌≡◌, ◌≤◌, min, [], ◌++◌, length, take, drop, if◌then◌else◌, Some, None, nat_le};
+ghost use Rattle.std.specs.Prelude.{◌≡◌, ◌-◌, ◌≤◌, min, [], ◌++◌, length, take, drop, replicate, if◌then◌else◌, Some, None, nat_le};
 ghost use Rattle.std.specs.Option.{option_map};
 ghost use Rattle.buffer.specs.Buffers.{contents, flipped};
 
@@ -16,8 +16,18 @@ impl<const N: usize> Buffer<N> {
         }
     }
 
-    // A buffer of these bytes; none where they are more than N, which each caller has its own refusal for. The copy is by index:
-    // of a slice from `get_mut` a proof knows the length alone.
+    // The first N of these bytes, and zeros behind them. The copy is by index: of a slice from `get_mut` a proof knows the
+    // length alone.
+    pub fn padded(bytes: &[u8]) -> [u8; N]
+        ensures { result ≡ take N bytes.now ++ replicate (N - length bytes.now) 0 }
+    {
+        let len = bytes.len().min(N);
+        let mut memory = [0; N];
+        memory[..len].copy_from_slice(&bytes[..len]);
+        memory
+    }
+
+    // A buffer of these bytes; none where they are more than N, which each caller has its own refusal for.
     pub fn from_slice(bytes: &[u8]) -> Option<Self>
         ensures { option_map contents result ≡ (if nat_le (length bytes.now) N then Some bytes.now else None) }
     {
@@ -25,8 +35,7 @@ impl<const N: usize> Buffer<N> {
         if len > N {
             return None;
         }
-        let mut memory = [0; N];
-        memory[..len].copy_from_slice(bytes);
+        let memory = Self::padded(bytes);
         Some(Buffer { memory, len })
     }
 
