@@ -34,7 +34,7 @@ impl fmt::Display for Timer {
     }
 }
 
-// A command sent; DATA carries the station's current message.
+// A command sent; DATA carries the station's current message. No Option of a number: ENQ is a command too.
 #[derive(Clone, Copy, Debug, PartialEq, Eq)]
 pub enum Command {
     Enq,
