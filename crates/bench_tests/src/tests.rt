@@ -1,7 +1,7 @@
 // What is printed for single lines; the expected answers are those of docs/WORKBENCH.md. The lines are those of script_tests,
 // whose parse knows packets and media alone.
-use subject_bench::command::parse;
 use std::alloc::{AllocError, Global};
+use subject_bench::command::parse;
 
 // What is wrong with a line, or nothing.
 fn fault(heap: Global, line: &str) -> Result<String, AllocError> {
