@@ -9,6 +9,7 @@ use script_words::fault::Fault;
 use std::alloc::{AllocError, Global};
 use std::fmt;
 
+// A refused call. It and `wrong` stay calls: each is one line by Display with its end, which no type would say more plainly.
 pub fn refused(heap: Global, why: Refusal) -> Result<String, AllocError>
     ensures { IfOk result (λ s. string_bytes s ≡ refusal (number_of why)) }
 {

@@ -132,7 +132,7 @@ pub(crate) fn state(heap: Global, end: &Option<OpenEnd>) -> Result<String, Alloc
 }
 
 // Opens an end of a kind; one that the name had is gone, unless this is refused.
-// No trait's method from an end to an open one: a type with a bound whose trait has ghost members gets no generated proof.
+// Tried as a trait's method: `the block has no proof, and rattle makes none: a type has a bound whose trait has ghost members`.
 fn open_as(
     end: &mut Option<OpenEnd>,
     line: u8,

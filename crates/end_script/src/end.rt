@@ -68,7 +68,7 @@ impl<'a> TryFrom<&'a [u8]> for Name {
     }
 }
 
-// The name of an end.
+// The name of an end. Not one generic read of an argument, as at `Arguments::kind`.
 fn name_in(words: &mut Arguments<'_>) -> Result<Name, Fault>
     ensures { told (λ n. n) result words.new.rest.now ≡ argument end_name fault.EndName words.old.rest.now }
 {

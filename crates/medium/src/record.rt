@@ -16,7 +16,7 @@ impl Burst {
         Burst::of(&[0]).unwrap()
     }
 
-    // The record of a burst that a medium carries.
+    // The record of a burst that a medium carries. Its test is that of `sendable`; two lines are no plainer as a call.
     pub(crate) fn of(burst: &[u8]) -> Option<Burst>
         ensures { option_map bytes_of result ≡ (if carried burst.now then Some burst.now else None) }
     {

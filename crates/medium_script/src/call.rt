@@ -72,6 +72,7 @@ fn call_after<'a>(word: &[u8], words: &mut Arguments<'a>) -> Result<MediumCall<'
     }
 }
 
+// Not one generic read of an argument, as at `Arguments::kind`.
 fn spec_in(words: &mut Arguments<'_>) -> Result<Spec, Fault>
     ensures { told (λ s. s) result words.new.rest.now ≡ argument spec fault.Spec words.old.rest.now }
 {

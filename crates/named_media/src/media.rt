@@ -90,7 +90,7 @@ impl<'a, 'p> NamedMedium<'a, 'p> {
         })
     }
 
-    // Takes the oldest burst to the start of the place, and tells its length.
+    // Takes the oldest burst to the start of the place, and tells its length: 0 where none is under way, as `Medium::take` does.
     pub fn take(&mut self, place: &mut [u8; LONGEST]) -> Option<usize>
         ensures value { result ≡ option_map (λ bs. length (first bs)) (under_way (model self.old)) }
         ensures bound { unwrap_or result 0 ≤ 104 }

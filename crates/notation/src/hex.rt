@@ -18,7 +18,7 @@ fn digit(c: u8) -> Option<u8>
     }
 }
 
-// The byte that two digits stand for.
+// The byte that two digits stand for; another byte counts 0, as in the definition: callers asked `are_pairs` before.
 #[tactic(auto, using(crate::proofs::Pairs::digit_small))]
 pub fn byte(high: u8, low: u8) -> u8
     ensures { result ≡ byte high low }

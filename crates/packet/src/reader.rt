@@ -50,7 +50,7 @@ impl<'a> Packet<'a> {
     }
 }
 
-// Reads a burst, or refuses it with 1 to 7.
+// Reads a burst, or refuses it with 1 to 7. A TryFrom would be no plainer: here its three promises have names.
 pub fn read<K: Check>(burst: &[u8]) -> Result<Packet<'_>, Refusal>
     ensures value { answer told result ≡ reading K.LEN K.meaning burst.now }
     ensures as_written { ReadAsWritten K.LEN K.meaning burst.now (answer told result) }

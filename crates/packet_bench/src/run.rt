@@ -17,6 +17,7 @@ use packet_script::call::PacketCall;
 use script_words::words::Kind;
 use std::alloc::{AllocError, Global};
 
+// The kind is matched in both arms: it is a type of each call, and no value can stand for it.
 pub fn run(heap: Global, call: PacketCall<'_>) -> Result<String, AllocError>
     ensures { IfOk result (λ s. string_bytes s ≡ printed (call_of call.entry)) }
 {

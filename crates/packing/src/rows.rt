@@ -6,7 +6,7 @@ ghost use Rattle.packing.specs.Rowed.{framed};
 
 use ring::Ring;
 
-// Adds bytes for which there is room.
+// Adds bytes for which there is room. `place` speaks of a call and not of a value, so it stands at each of the three.
 fn put_all(ring: &mut Ring<'_, u8>, bytes: &[u8])
     requires { length (elements ring.old) + length bytes.now ≤ places ring.old }
     ensures after { elements ring.new ≡ elements ring.old ++ bytes.now }

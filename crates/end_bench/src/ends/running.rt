@@ -70,7 +70,7 @@ pub fn run_end(heap: Global, ends: &mut Ends, command: EndCommand<'_>) -> Result
     ensures after { Left result (model ends.old) (after (model ends.old) (command_of command.entry)) (model ends.new) }
 {
     let call = command.call;
-    // An arm for each pair of names: a `&mut` that a `match` picks from two gets no generated proof.
+    // An arm for each pair of names: tried as two matches, `a reference is one of two borrows, by the path that was taken`.
     match (command.name, slip_name(command.name, call)) {
         (Name::A, Name::A) => call_on(heap, &mut ends.a, &mut ends.a_slip, call),
         (Name::A, Name::B) => call_on(heap, &mut ends.a, &mut ends.b_slip, call),

@@ -16,7 +16,8 @@ use packet::refusal::Refusal;
 
 const CAPACITY: usize = 8;
 
-// A message that DATA can carry; what it cannot is refused with 16 or 17.
+// A message that DATA can carry; what it cannot is refused with 16 or 17. The two lines that `storable` and `Burst::of` have
+// too are no plainer as a call.
 pub(crate) fn sendable(message: &[u8]) -> Result<Buffer<96>, Refusal>
     ensures { answer contents result ≡ judged (message_rules message.now) message.now }
 {

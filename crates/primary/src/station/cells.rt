@@ -189,7 +189,7 @@ impl Primary {
     }
 
     // What the station does at an event, with the attempt limit as it is now: the action table. Only a submission can be
-    // refused, with 16 to 19.
+    // refused, with 16 to 19. One match on state and event: a rule of the project.
     pub fn step(&mut self, event: Event<'_>, limit: u8) -> Result<Step, Refusal>
         ensures value { answer (did self.new) result ≡ step_of limit (model self.old) (heard event.entry) }
         ensures unchanged { OnErr result (self.new ≡ self.old) }

@@ -45,7 +45,7 @@ fn period(settings: &Settings, timer: Timer) -> u16
     }
 }
 
-// The credit in the field of an ACK.
+// The credit in the field of an ACK; 0 where there is none, as the definition reads it: no ACK that is read lacks it.
 fn credit_in(field: &[u8]) -> u8
     ensures { result ≡ slice_index field.now 0 - 0x30 }
 {

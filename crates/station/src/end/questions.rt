@@ -20,8 +20,7 @@ impl<K: Check> End<K> {
     }
 
     // The primary station: its state, number and attempts, the credit last heard (9 if none was, a number of the
-    // protocol), how many messages are
-    // without outcome, and how many outcomes are not collected.
+    // protocol), how many messages are without outcome, and how many outcomes are not collected.
     pub fn status(&self) -> Status
         ensures state { result.state ≡ state_of (model self.now).primary.phase }
         ensures number { is_one result.number ≡ (model self.now).primary.number }
