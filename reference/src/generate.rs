@@ -3,7 +3,6 @@
 mod media;
 mod packets;
 mod stations;
-mod subjects;
 mod words;
 mod workbench;
 
@@ -14,7 +13,6 @@ use crate::run::Bench;
 pub use media::media;
 pub use packets::packets;
 pub use stations::stations;
-pub use subjects::subjects;
 pub use workbench::workbench;
 
 const LETTERS: [u8; 6] = *b"E01ABR";

@@ -19,8 +19,7 @@ const USAGE: &str = "usage: reference run
        reference generate packets
        reference generate media
        reference generate stations
-       reference generate workbench
-       reference generate subjects";
+       reference generate workbench";
 
 fn main() -> ExitCode {
     let arguments: Vec<_> = env::args_os().skip(1).collect();
@@ -32,7 +31,6 @@ fn main() -> ExitCode {
         [Some("generate"), Some("media")] => output.write_all(&generate::media()),
         [Some("generate"), Some("stations")] => output.write_all(&generate::stations()),
         [Some("generate"), Some("workbench")] => output.write_all(&generate::workbench()),
-        [Some("generate"), Some("subjects")] => output.write_all(&generate::subjects()),
         _ => {
             eprintln!("{USAGE}");
             return ExitCode::from(2);

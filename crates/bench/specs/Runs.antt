@@ -1,24 +1,36 @@
--- What is printed for a line about packets or media, and what it leaves. Assumes nothing.
+-- What is printed for a line, and what it leaves. Assumes nothing.
 use Rattle.std.specs.Prelude.{ℕ, List}
 use Rattle.answers.specs.Asked.{said, left_by}
-use Rattle.notation.specs.Words.{without_end}
+use Rattle.end_answers.specs.Settings.{settings_line}
+use Rattle.end_bench.specs.Bench as ends
 use Rattle.medium_bench.specs.Leaving as media
 use Rattle.medium_bench.specs.Printed as media_lines
 use Rattle.named_media.specs.Media.{Named}
+use Rattle.notation.specs.Words.{without_end}
 use Rattle.packet_bench.specs.Printed as packet_lines
-use Rattle.script.specs.Commands.{Request, packet, medium, command_of}
+use Rattle.script.specs.Commands.{Request, packet, settings, end, medium, command_of}
+use Rattle.settings.specs.Frame.{settings_of}
 
-abbrev pub answered : Named × Named → Request → List ℕ
+-- what is kept from line to line: the ends of the names a and b with their slips, and the media of the names m and n
+pub record Bench : Type 0 where
+  pub ends : ends.Bench
+  pub media : Named × Named
+
+abbrev pub answered : Bench → Request → List ℕ
 answered w (packet call) = packet_lines.printed call
-answered w (medium command) = media_lines.printed w command
+answered w (settings frame) = settings_line (settings_of frame)
+answered w (end command) = ends.printed w.ends command
+answered w (medium command) = media_lines.printed w.media command
 
-abbrev pub carried_out : Request → Named × Named → Named × Named
+abbrev pub carried_out : Request → Bench → Bench
 carried_out (packet call) w = w
-carried_out (medium command) w = media.after command w
+carried_out (settings frame) w = w
+carried_out (end command) w = record { ends = ends.after w.ends command; media = w.media }
+carried_out (medium command) w = record { ends = w.ends; media = media.after command w.media }
 
 -- of a line, with or without its end
-abbrev pub printed : Named × Named → List ℕ → List ℕ
+abbrev pub printed : Bench → List ℕ → List ℕ
 printed w line = said (answered w) (command_of (without_end line))
 
-abbrev pub after : List ℕ → Named × Named → Named × Named
+abbrev pub after : List ℕ → Bench → Bench
 after line w = left_by carried_out (command_of (without_end line)) w

@@ -1,4 +1,4 @@
-// What is printed for a line of a script about packets and media, and what it leaves.
+// The workbench: what is printed for a line of a script, and what it leaves.
 #![tactic(auto)]
 
 pub mod run;

@@ -5,19 +5,29 @@ use Rattle.script_words.specs.Arguments.{◌then◌, is_blank, due}
 use Rattle.script_words.specs.Told.{asked}
 use Rattle.script_words.specs.declared.fault.Fault.{Fault}
 use Rattle.script_words.specs.declared.fault.Fault.TheVariants.{UnknownCommand}
+use Rattle.end_script.specs.Calls as ends
+use Rattle.end_script.specs.Commands.{end_call, settings_call}
 use Rattle.medium_script.specs.Calls as media
 use Rattle.packet_script.specs.Calls as packets
 
 pub data Request : Type 0 where
   packet : packets.Call → Request
+  settings : List ℕ → Request
+  end : ends.Command → Request
   medium : media.Command → Request
 
 -- by the word that names the subject
+abbrev pub station_call_after : List ℕ → List ℕ → Result Request Fault
+station_call_after subject rest =
+    cond (bytes_eq subject (codes "settings")) (asked settings (settings_call rest))
+    (cond (bytes_eq subject (codes "end")) (asked end (end_call rest))
+    (Err UnknownCommand))
+
 abbrev pub call_after : List ℕ → List ℕ → Result Request Fault
 call_after subject rest =
     cond (bytes_eq subject (codes "packet")) (asked packet (packets.packet_call rest))
     (cond (bytes_eq subject (codes "medium")) (asked medium (media.medium_call rest))
-    (Err UnknownCommand))
+    (station_call_after subject rest))
 
 -- what a line asks for, if it asks for anything
 abbrev pub command_of : List ℕ → Result (Option Request) Fault

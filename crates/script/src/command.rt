@@ -2,17 +2,23 @@
 ghost use Rattle.std.specs.Prelude.{◌≡◌};
 ghost use Rattle.std.specs.Option.{option_map};
 ghost use Rattle.script_words.specs.Told.{asked};
-ghost use Rattle.script.specs.Commands.{call_after, command_of};
+ghost use Rattle.script.specs.Commands.{call_after, command_of, station_call_after};
 ghost use Rattle.script.specs.Told.{request};
 
+use end_script::end::{EndCommand, parse_end};
+use end_script::settings::parse_settings;
 use medium_script::call::MediumCommand;
 use packet_script::call::PacketCall;
 use script_words::arguments::Arguments;
 use script_words::fault::Fault;
+use script_words::words::Bytes;
 
 #[derive(Clone, Copy)]
 pub enum Command<'a> {
     Packet(PacketCall<'a>),
+    // The settings frame to read.
+    Settings(Bytes<'a>),
+    End(EndCommand<'a>),
     Medium(MediumCommand<'a>),
 }
 
@@ -28,12 +34,23 @@ pub fn parse(line: &[u8]) -> Result<Option<Command<'_>>, Fault>
 }
 
 // What the rest of a line asks of the subject that its first word names.
-pub fn parse_after<'a>(subject: &[u8], words: Arguments<'a>) -> Result<Command<'a>, Fault>
+fn parse_after<'a>(subject: &[u8], words: Arguments<'a>) -> Result<Command<'a>, Fault>
     ensures { asked request result ≡ call_after subject.now words.entry.rest.now }
 {
     match subject {
         b"packet" => Ok(Command::Packet(packet_script::call::parse(words)?)),
         b"medium" => Ok(Command::Medium(medium_script::call::parse(words)?)),
+        _ => parse_station(subject, words),
+    }
+}
+
+// The same of what a station has: settings, and its end.
+fn parse_station<'a>(subject: &[u8], words: Arguments<'a>) -> Result<Command<'a>, Fault>
+    ensures { asked request result ≡ station_call_after subject.now words.entry.rest.now }
+{
+    match subject {
+        b"settings" => Ok(Command::Settings(parse_settings(words)?)),
+        b"end" => Ok(Command::End(parse_end(words)?)),
         _ => Err(Fault::UnknownCommand),
     }
 }

@@ -1,4 +1,4 @@
-// What a line of a workbench script of packets and media asks for.
+// What a line of a workbench script asks for.
 #![tactic(auto)]
 
 pub mod command;

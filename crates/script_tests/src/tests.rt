@@ -49,3 +49,20 @@ fn medium_faults_are_told(rt: HostRuntime) -> Result<(), AllocError> {
     }
     Ok(())
 }
+
+#[test]
+fn end_and_settings_faults_are_told(rt: HostRuntime) -> Result<(), AllocError> {
+    for (line, want) in [
+        ("settings write 01", "unknown command"),
+        ("settings read 0", "BYTES are pairs of hexadecimal digits"),
+        ("end c state", "NAME is a or b"),
+        ("end a mend", "unknown command"),
+        ("end a open 256 sum 01", "LINE is a number from 0 to 255"),
+        ("end b give c", "NAME is a or b"),
+        ("end b state 0", "too many words"),
+    ] {
+        let told = fault(rt.alloc(), line)?;
+        assert_eq!(rt; told.as_str(), want, "at {line}");
+    }
+    Ok(())
+}

@@ -1,38 +1,286 @@
-//! The script that the program is held to: media and packets.
+//! The script that the program is held to: packets, media and stations. The program may print less
+//! than a mebibyte, so each section of the subjects' scripts is thinned to what it may print.
 
-use super::{media, packets};
+use super::{media, packets, stations};
 use crate::run::Bench;
 
-/// How many bytes a section of the media's script may print in the workbench's.
-const MOST_PRINTED: usize = 8000;
+/// How many bytes a section may print, by subject.
+const PACKETS: usize = 3000;
+const MEDIA: usize = 2500;
+const STATIONS: usize = 4000;
 
-/// The script that the program is held to: what it prints has to stay below a
-/// mebibyte, so most sections on media are cut short.
+/// The same for a section that leads to a limit far away, or through all states.
+const LONG: usize = 33_000;
+
+/// What stands in the titles of such sections.
+const LONG_TITLES: [&str; 7] = [
+    "a queue of 4096 places, filled",
+    "a noisy medium of 4096 places, filled",
+    "a packed memory of 65536 bytes, filled",
+    "stay at 255",
+    "submission, RESET, ACKs, timeout",
+    "in every state",
+    "R = 1 and 2, all numbers held",
+];
+
+/// Packets, media and stations; the last, because a slip is kept at their end.
+/// The last line has no line end.
 pub fn workbench() -> Vec<u8> {
-    let mut script = shortened(&media(), MOST_PRINTED);
-    script.extend(packets());
-    script
+    let mut thinned = Thinned::default();
+    for (script, most) in [
+        (packets(), PACKETS),
+        (media(), MEDIA),
+        (stations(), STATIONS),
+    ] {
+        for section in sections(&script) {
+            thinned.section(&section, most);
+        }
+    }
+    thinned.text.pop();
+    thinned.text
 }
 
-/// Each section up to the line with which it has printed so many bytes. Sections
-/// that fill a memory are kept whole.
-fn shortened(script: &[u8], most: usize) -> Vec<u8> {
+/// A line and what it prints in the whole script.
+struct Line<'a> {
+    text: &'a [u8],
+    printed: usize,
+    is_error: bool,
+}
+
+/// A comment and the lines up to the next one, in cases: lines that stay together.
+struct Section<'a> {
+    title: &'a [u8],
+    cases: Vec<Vec<Line<'a>>>,
+}
+
+impl Section<'_> {
+    fn printed(&self) -> usize {
+        self.cases.iter().map(|case| printed(case)).sum()
+    }
+
+    /// Where it is one case of mostly wrong lines, each line stands for itself.
+    fn part(&mut self) {
+        let [case] = &mut self.cases[..] else {
+            return;
+        };
+        let errors = case.iter().filter(|line| line.is_error).count();
+        if errors > case.len() / 2 {
+            let lines = std::mem::take(case);
+            self.cases = lines.into_iter().map(|line| vec![line]).collect();
+        }
+    }
+
+    fn is_long(&self) -> bool {
+        let title = String::from_utf8_lossy(self.title);
+        LONG_TITLES.iter().any(|long| title.contains(long))
+    }
+}
+
+fn printed(case: &[Line]) -> usize {
+    case.iter().map(|line| line.printed).sum()
+}
+
+fn sections(script: &[u8]) -> Vec<Section<'_>> {
+    let mut sections: Vec<Section> = Vec::new();
     let mut bench = Bench::default();
-    let mut kept = Vec::new();
-    let mut room = most;
-    for line in script.split(|&byte| byte == b'\n') {
-        if line.starts_with(b"#") {
-            let fills = String::from_utf8_lossy(line).contains("filled to the last");
-            room = if fills { usize::MAX } else { most };
-        } else if room == 0 {
+    let mut starts = Starts::default();
+    for text in script.split(|&byte| byte == b'\n') {
+        if text.starts_with(b"#") {
+            sections.push(Section {
+                title: text,
+                cases: Vec::new(),
+            });
             continue;
         }
-        let mut answer = Vec::new();
-        let done = bench.run(line, &mut answer);
-        done.expect("memory takes what is printed");
-        room = room.saturating_sub(answer.len());
-        kept.extend_from_slice(line);
-        kept.push(b'\n');
+        let free = !bench.keeps_a_slip();
+        let answer = answer(&mut bench, text);
+        let line = Line {
+            text,
+            printed: answer.len(),
+            is_error: answer.starts_with(b"error: "),
+        };
+        let section = sections.last_mut().expect("a script begins with a comment");
+        let cases = &mut section.cases;
+        if starts.starts(text, &answer) && free || cases.is_empty() {
+            cases.push(Vec::new());
+        }
+        cases.last_mut().expect("there is one").push(line);
     }
-    kept
+    for section in &mut sections {
+        section.part();
+    }
+    sections
+}
+
+fn answer(bench: &mut Bench, line: &[u8]) -> Vec<u8> {
+    let mut answer = Vec::new();
+    let done = bench.run(line, &mut answer);
+    done.expect("memory takes what is printed");
+    answer
+}
+
+/// Finds the lines that start a case.
+#[derive(Default)]
+struct Starts {
+    /// Since the last start something was opened or made, and nothing else done.
+    opening: bool,
+}
+
+impl Starts {
+    /// A case starts with a line that needs nothing from before, or with an
+    /// opening or making. Both ends opened, or both media made, start one case.
+    fn starts(&mut self, line: &[u8], answer: &[u8]) -> bool {
+        let needless = [&b"packet"[..], b"settings"];
+        let alone = needless.iter().any(|word| line.starts_with(word));
+        let opened = answer.starts_with(b"opened") || answer.starts_with(b"made");
+        let starts = alone || opened && !self.opening;
+        self.opening = opened || self.opening && answer.starts_with(b"state=");
+        starts
+    }
+}
+
+/// The script in the making.
+#[derive(Default)]
+struct Thinned {
+    text: Vec<u8>,
+    bench: Bench,
+}
+
+impl Thinned {
+    /// Adds a section that prints about `most` bytes: cases from all over it,
+    /// cut short where they are too long.
+    fn section(&mut self, section: &Section, most: usize) {
+        let most = if section.is_long() { LONG } else { most };
+        let whole = section.printed();
+        self.line(section.title);
+        let mut passed = 0;
+        let mut kept = 0;
+        for case in &section.cases {
+            passed += printed(case);
+            if whole > most && kept * whole >= most * passed {
+                continue;
+            }
+            for line in case {
+                if whole <= most || kept < most {
+                    self.line(line.text);
+                    kept += line.printed;
+                }
+            }
+        }
+        if whole > most {
+            self.give_back();
+        }
+    }
+
+    fn line(&mut self, line: &[u8]) {
+        self.text.extend_from_slice(line);
+        self.text.push(b'\n');
+        answer(&mut self.bench, line);
+    }
+
+    /// Gives back the slips that a thinned section left, so that the next one can
+    /// open what it wants.
+    fn give_back(&mut self) {
+        for line in ["end a give", "end b give", "end a give b", "end b give a"] {
+            if self.bench.keeps_a_slip() {
+                self.line(line.as_bytes());
+            }
+        }
+    }
+}
+
+#[cfg(test)]
+mod tests {
+    use super::*;
+    use crate::generate::stations::tests as stations;
+    use crate::generate::tests::answers;
+    use std::collections::BTreeSet;
+
+    #[test]
+    fn every_subject_has_its_lines() {
+        let script = workbench();
+        assert_eq!(script, workbench());
+        assert!(script.ends_with(b"\nend b state"));
+        let answers = answers(&script);
+        let count = |words: &[&[u8]]| {
+            let first = |line: &[u8]| {
+                let mut parts = line.split(|&byte| byte == b' ');
+                parts.find(|part| !part.is_empty()).map(<[u8]>::to_vec)
+            };
+            let lines = answers.iter().filter_map(|(line, _)| first(line));
+            lines.filter(|word| words.contains(&&word[..])).count()
+        };
+        assert!(count(&[b"packet"]) >= 2_000);
+        assert!(count(&[b"medium"]) >= 5_000);
+        assert!(count(&[b"settings", b"end"]) >= 10_000);
+        let printed: usize = answers.iter().map(|(_, answer)| answer.len() + 1).sum();
+        assert!(printed < 1_000_000, "{printed}");
+    }
+
+    #[test]
+    fn limits_far_away_are_reached() {
+        let answers = answers(&workbench());
+        let occurs = |wanted: &str| answers.iter().any(|(_, answer)| answer.starts_with(wanted));
+        assert!(occurs("4096"));
+        assert!(occurs("state=Off number=1 attempts=255 "));
+        assert!(occurs("state=Ready number=1 attempts=255 "));
+    }
+
+    #[test]
+    fn every_refusal_is_answered() {
+        let answers = answers(&workbench());
+        let told: BTreeSet<&str> = answers.iter().map(|(_, answer)| &answer[..]).collect();
+        for number in (1..=24).chain([29]) {
+            assert!(told.contains(&format!("refused {number}")[..]), "{number}");
+        }
+    }
+
+    #[test]
+    fn every_cell_of_both_stations_occurs() {
+        let calls = stations::calls(&workbench());
+        stations::primary_cells(&calls, 1);
+        stations::timeouts_around_the_limit(&calls, 1);
+        stations::refused_in_every_state(&calls);
+        assert!(stations::refused_and_unchanged(&calls) > 500);
+
+        let cells = stations::secondary_cells(&calls);
+        for last in ["R", "A", "B"] {
+            for letter in *b"E01" {
+                for [is_free, is_out] in
+                    [[true, false], [true, true], [false, false], [false, true]]
+                {
+                    let cell = |key: &&(String, u8, usize, bool)| {
+                        let (before, command, free, out) = key;
+                        before == last
+                            && *command == letter
+                            && (*free > 0) == is_free
+                            && *out == is_out
+                    };
+                    // After RESET nothing is held, and R is at least 1.
+                    let possible = last != "R" || is_free && !is_out;
+                    assert_eq!(cells.keys().any(|key| cell(&key)), possible);
+                }
+            }
+        }
+    }
+
+    #[test]
+    fn a_period_out_of_range_keeps_the_attempt_limit_in_every_state() {
+        let calls = stations::calls(&workbench());
+        let mut states = BTreeSet::new();
+        for call in calls.iter().filter(|call| call.call == "settings") {
+            let frame = Some(&call.argument[..]).filter(|frame| frame.len() == 18);
+            let number = |digits| u16::from_str_radix(frame?.get(digits)?, 16).ok();
+            let limit = number(14..16).map(|limit| limit.to_string());
+            if number(6..10) == Some(200)
+                && number(10..14) == Some(6001)
+                && limit.is_some_and(|limit| limit != call.before("M"))
+            {
+                assert_eq!(call.answer, "refused 11");
+                assert_eq!(call.before, call.after);
+                states.insert(call.before("state"));
+            }
+        }
+        assert_eq!(states.len(), 4);
+    }
 }

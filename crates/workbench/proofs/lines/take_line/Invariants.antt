@@ -1,5 +1,5 @@
-use Rattle.workbench_program.specs.Ends.{StaysKnown}
-use Rattle.workbench_program.proofs.lines.take_line.Given as goal
+use Rattle.workbench.specs.Ends.{StaysKnown}
+use Rattle.workbench.proofs.lines.take_line.Given as goal
 
 abbrev pub invariant-loop : goal.invariant-loop
 invariant-loop g l = StaysKnown (g.R.Read.remaining l.initial.input) (g.R.Read.remaining l.input)

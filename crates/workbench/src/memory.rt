@@ -11,7 +11,7 @@ use packing::packed_medium::PACKED_LIMIT;
 use std::alloc::{AllocError, Global};
 
 // A packed medium of the most places, with nothing under way.
-pub fn packed_medium(heap: Global) -> Result<PackedMedium<'static>, AllocError>
+pub(crate) fn packed_medium(heap: Global) -> Result<PackedMedium<'static>, AllocError>
     ensures bursts { IfOk result (λ p. carries p ≡ []) }
     ensures places { IfOk result (λ p. places p.ring ≡ 65536) }
 {
@@ -20,7 +20,7 @@ pub fn packed_medium(heap: Global) -> Result<PackedMedium<'static>, AllocError>
 }
 
 // Places for a queue of the most bursts.
-pub fn bursts(heap: Global) -> Result<&'static mut [Burst], AllocError>
+pub(crate) fn bursts(heap: Global) -> Result<&'static mut [Burst], AllocError>
     ensures { IfOk result (λ s. length s.now ≡ 4096) }
 {
     Ok(vec![in heap; Burst::blank(); QUEUE_LIMIT]?.leak())

@@ -1,6 +1,6 @@
 // The lines of the input, of any length and any bytes.
 ghost use Rattle.std.specs.Prelude.{◌≡◌, None, Ok, OnOk};
-ghost use Rattle.workbench_program.specs.Ends.{StaysKnown, Ended};
+ghost use Rattle.workbench.specs.Ends.{StaysKnown, Ended};
 
 use notation::words::trimmed;
 use std::alloc::Global;

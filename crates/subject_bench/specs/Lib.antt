@@ -1,3 +1,0 @@
-pub mod Commands
-pub mod Runs
-pub mod Told
