@@ -1,3 +1,4 @@
 pub mod Asked
+pub mod Checks
 pub mod Leaving
 pub mod Lines

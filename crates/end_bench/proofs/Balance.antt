@@ -15,7 +15,8 @@ use Rattle.station.specs.End.{End, seen}
 use Rattle.end_script.specs.Calls as call
 use Rattle.end_bench.specs.Calls.{is_out, bars_opening, opened, bars_taking, taken, given, slip_given, spent, end_after, slip_after}
 use Rattle.end_bench.specs.Fair.{Slip, lent_by, lent as lent_of}
-use Rattle.end_bench.specs.Named.{Named, check}
+use Rattle.answers.specs.Checks.{check}
+use Rattle.end_bench.specs.Named.{Named}
 use Rattle.end_bench.proofs.Lent.{heard_lent, set_lent, arrival_lent}
 
 -- x is out and s is kept; then x' is out and s' is kept

@@ -1,6 +1,5 @@
 -- The delivery that an end has out, over the calls that leave it out. Assumes nothing.
 use Rattle.std.proofs.Common.{◌≡◌, ℕ, ◌+◌, ◌-◌, ◌%◌, ◌<◌, min, Bool, true, false, cond, not, eqb, ltb, List, [], ◌∷◌, length, get_or, Some, None, Option, refl, ap, arith, length-append}
-use Rattle.std.proofs.lemmas.Bool.Decides.{nat_tests}
 use Rattle.packet.specs.declared.number.Number.{Number}
 use Rattle.packet.specs.declared.number.Number.TheVariants.{Zero, One}
 use Rattle.packet.specs.Format.{Parts, parts, reading}
@@ -10,6 +9,7 @@ use Rattle.primary.specs.Station as primary
 use Rattle.primary.specs.Table.{step_of}
 use Rattle.secondary.specs.declared.reply.Answer.{Answer as Reply}
 use Rattle.secondary.specs.Station.{Station, or_kept, free_buffers, stored}
+use Rattle.secondary.proofs.Outs.{turned, roomy}
 use Rattle.settings.specs.declared.values.Settings.{Settings}
 use Rattle.station.specs.End.{End, limit, hears, by_primary, by_secondary, enq_heard, data_heard, after_reading, arrival, left_by, set_by, seen}
 use Rattle.end_bench.specs.Fair.{Slip, lent_by}
@@ -28,13 +28,6 @@ heard_lent e h = by_primary_lent e (step_of e.settings.attempt_limit e.primary h
 pub set_lent : (e : End) (x : Answer Settings) → lent_at (set_by x e) ≡ lent_at e
 set_lent e (refused n) = refl
 set_lent e (gave s) = refl
-
--- a message more does not move the oldest buffer
-turned : (next n n' : ℕ) → n < 8 → n' ≡ n + 1 → ((next + 1) % 8 + 8 - n') % 8 ≡ (next + 8 - n) % 8
-turned next n n' lt e = omega arith
-
-roomy : (limit n : ℕ) → ltb 0 (min limit 8 - n) ≡ true → n < 8
-roomy limit n e = grind (arith, nat_tests)
 
 stored_lent : (n : Number) (m : List ℕ) (s : Station) → length s.held < 8 → lent_by (stored n m s) ≡ lent_by s
 stored_lent n m s lt =

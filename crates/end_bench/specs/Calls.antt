@@ -17,7 +17,8 @@ use Rattle.end_script.specs.Calls as call
 use Rattle.secondary.specs.declared.station.DeliverySlip.{DeliverySlip}
 use Rattle.end_bench.specs.declared.named.OpenEnd.{OpenEnd}
 use Rattle.end_bench.specs.Fair.{Slip, kept}
-use Rattle.end_bench.specs.Named.{Named, open_end, check}
+use Rattle.answers.specs.Checks.{check}
+use Rattle.end_bench.specs.Named.{Named, open_end}
 
 -- what is printed of an end, unless none is open
 abbrev pub if_open : Named → (Kind → End → List ℕ) → List ℕ

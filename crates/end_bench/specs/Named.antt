@@ -1,7 +1,6 @@
 -- The end of a name. Assumes nothing.
-use Rattle.std.specs.Prelude.{ℕ, List, Option}
+use Rattle.std.specs.Prelude.{Option}
 use Rattle.std.specs.Option.{option_map}
-use Rattle.packet.specs.Checks.{sum_check, xor_check}
 use Rattle.script_words.specs.declared.words.Kind.{Kind}
 use Rattle.script_words.specs.declared.words.Kind.TheVariants as kind
 use Rattle.station.specs.End.{End}
@@ -19,8 +18,3 @@ kind_and_end (Xor e) = (kind.Xor, model e)
 
 abbrev pub open_end : Option OpenEnd → Named
 open_end e = option_map kind_and_end e
-
--- the check bytes by a kind; both have one
-abbrev pub check : Kind → List ℕ → List ℕ
-check kind.Sum = sum_check
-check kind.Xor = xor_check

@@ -6,7 +6,8 @@ ghost use Rattle.station.specs.Reports.{told, telling};
 ghost use Rattle.end_script.specs.Calls as call;
 ghost use Rattle.end_bench.specs.Calls.{if_open, changed, is_out, bars_opening, opened, give_line, given, slip_given, call_line, end_after, of_open, slip_after};
 ghost use Rattle.end_bench.specs.Fair.{kept};
-ghost use Rattle.end_bench.specs.Named.{open_end, check};
+ghost use Rattle.answers.specs.Checks.{check};
+ghost use Rattle.end_bench.specs.Named.{open_end};
 
 use crate::named::OpenEnd;
 use crate::{of_kind, slips};

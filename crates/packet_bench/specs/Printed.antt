@@ -1,11 +1,9 @@
 -- What is printed for a packet call. Assumes nothing.
 use Rattle.std.specs.Prelude.{ℕ, List, ◌∷◌, ◌++◌, length, codes, decimal}
 use Rattle.notation.specs.Hex.{hex}
-use Rattle.packet.specs.Checks.{sum_check, xor_check}
 use Rattle.packet.specs.Format.{Parts, parts, packet, reading, writing}
 use Rattle.packet.specs.Refusals.{Answer, refused, gave}
-use Rattle.script_words.specs.declared.words.Kind.{Kind}
-use Rattle.script_words.specs.declared.words.Kind.TheVariants.{Sum, Xor}
+use Rattle.answers.specs.Checks.{check}
 use Rattle.answers.specs.Lines.{end, refusal, burst_line}
 use Rattle.packet_script.specs.Calls.{Call, read, write}
 
@@ -19,11 +17,6 @@ read_line (gave (parts l p f)) =
 abbrev pub write_line : Answer ℕ → List ℕ → List ℕ
 write_line (refused n) p = refusal n
 write_line (gave n) p = burst_line p
-
--- the check bytes by a kind; both have one
-abbrev pub check : Kind → List ℕ → List ℕ
-check Sum = sum_check
-check Xor = xor_check
 
 abbrev pub printed : Call → List ℕ
 printed (read k b) = read_line (reading 1 (check k) b)

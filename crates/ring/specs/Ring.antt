@@ -29,6 +29,7 @@ pub record Over {X : Type 0} (xs : List X) (n : ℕ) (r : Ring X) : Type 0 where
   pub elements : elements r ≡ []
   pub places : places r ≡ min (length xs) n
   pub beyond : beyond r ≡ drop n xs
+  pub memory : memory r ≡ xs
 
 -- r' is the empty store in all memory of r, with up to n places
 pub record Anew {X : Type 0} (r : Ring X) (n : ℕ) (r' : Ring X) : Type 0 where

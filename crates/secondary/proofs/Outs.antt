@@ -13,10 +13,11 @@ pub record Out (line buffer : ℕ) (s : Station) : Type 0 where
   pub buffer_is : oldest_buffer s ≡ buffer
   pub room : length s.held ≤ 8
 
-turned : (next n n' : ℕ) → n < 8 → n' ≡ n + 1 → ((next + 1) % 8 + 8 - n') % 8 ≡ (next + 8 - n) % 8
+-- a message more does not move the oldest buffer
+pub turned : (next n n' : ℕ) → n < 8 → n' ≡ n + 1 → ((next + 1) % 8 + 8 - n') % 8 ≡ (next + 8 - n) % 8
 turned next n n' lt e = omega arith
 
-roomy : (limit n : ℕ) → ltb 0 (min limit 8 - n) ≡ true → n < 8
+pub roomy : (limit n : ℕ) → ltb 0 (min limit 8 - n) ≡ true → n < 8
 roomy limit n e = grind (arith, nat_tests)
 
 differs : (l b line buffer : ℕ) (out : Bool) → (l ≡ line → b ≡ buffer → ⊥) → eqb l line && (out && eqb b buffer) ≡ false

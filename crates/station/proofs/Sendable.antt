@@ -61,7 +61,7 @@ cell_valid M s (asking c ms) reset e w v = v
 cell_valid M s (asking c ms) (ack n k) e w v = either (beq n s.number) (arrives ms s) (sends_again c ms s) (arrives_valid ms s (and_parts (valid c) (all_valid ms) v).1) v
 cell_valid M s (asking c ms) timeout e w v = either (leb M s.attempts) (gives_up ms s) (asks (asking c ms) s) refl v
 
-same_phase : (h : Heard) (s : Station) → (hears h s).phase ≡ s.phase
+pub same_phase : (h : Heard) (s : Station) → (hears h s).phase ≡ s.phase
 same_phase (submission m) s = refl
 same_phase reset s = refl
 same_phase (ack n k) s = refl

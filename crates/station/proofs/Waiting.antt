@@ -8,6 +8,7 @@ use Rattle.packet.specs.declared.number.Number.TheVariants.{Zero, One}
 use Rattle.packet.proofs.Judging.{passed}
 use Rattle.primary.specs.Station as primary
 use Rattle.primary.specs.Table.{cell, hears, rules, step_of, arrives, gives_up, asks, rests, sends_again, once_more}
+use Rattle.station.proofs.Sendable.{same_phase}
 use Rattle.secondary.specs.declared.reply.Answer.{Answer as Reply}
 use Rattle.secondary.specs.Station as secondary
 use Rattle.settings.specs.declared.values.Settings.{Settings}
@@ -59,12 +60,6 @@ pub record Kept (e e' : ends.End) : Type 0 where
 
 same : (e : ends.End) → ends.awaiting e.primary.phase ≡ true → Kept e e
 same e w = record { under_way = w; limit = refl; tried = omega arith }
-
-same_phase : (h : primary.Heard) (s : primary.Station) → (hears h s).phase ≡ s.phase
-same_phase (primary.submission m) s = refl
-same_phase primary.reset s = refl
-same_phase (primary.ack n k) s = refl
-same_phase primary.timeout s = refl
 
 same_attempts : (h : primary.Heard) (s : primary.Station) → (hears h s).attempts ≡ s.attempts
 same_attempts (primary.submission m) s = refl
