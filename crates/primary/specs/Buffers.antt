@@ -3,16 +3,16 @@ use Rattle.std.specs.Prelude.{◌≡◌, ℕ, ◌+◌, ◌-◌, List, [], ◌∷
 use Rattle.std.proofs.Common.{lit≤}
 use Rattle.buffer.specs.Buffers.{contents}
 use Rattle.buffer.specs.Turns.{turns}
-use Rattle.primary.specs.declared.outcome.Outcome.{Outcome}
 use Rattle.primary.specs.declared.outcome.Outcome.TheVariants.{Arrived}
 use Rattle.primary.specs.declared.buffers.SendBuffer.{SendBuffer}
 use Rattle.primary.specs.declared.buffers.SendBuffers.{SendBuffers}
+use Rattle.primary.specs.Outcomes.{outcome_number}
 
 abbrev pub message_in : SendBuffer → List ℕ
 message_in b = contents b.message
 
-abbrev pub outcome_in : SendBuffer → Outcome
-outcome_in b = b.outcome
+abbrev pub outcome_in : SendBuffer → ℕ
+outcome_in b = outcome_number b.outcome
 
 abbrev pub blank : SendBuffer
 blank = record { message = record { memory = replicate 96 0; len = 0; fits = lit≤ tt }; outcome = Arrived }
@@ -21,8 +21,8 @@ blank = record { message = record { memory = replicate 96 0; len = 0; fits = lit
 abbrev pub unsettled : SendBuffers → List (List ℕ)
 unsettled t = turns message_in blank t.buffers t.head t.done (t.used - t.done)
 
--- the outcomes not collected
-abbrev pub uncollected : SendBuffers → List Outcome
+-- the numbers of the outcomes not collected
+abbrev pub uncollected : SendBuffers → List ℕ
 uncollected t = turns outcome_in blank t.buffers t.head 0 t.done
 
 -- from t to t' the message m was added

@@ -6,6 +6,7 @@ ghost use Rattle.buffer.specs.Buffers.{contents};
 ghost use Rattle.packet.specs.Refusals.{answer, judged};
 ghost use Rattle.primary.specs.Buffers.{unsettled, uncollected, Accepted};
 ghost use Rattle.primary.specs.declared.outcome.Outcome.TheVariants.{NoConnection};
+ghost use Rattle.primary.specs.Outcomes.{outcome_number};
 ghost use Rattle.primary.specs.Rules.{message_rules, room_rules};
 
 use crate::buffers::{SendBuffer, SendBuffers};
@@ -93,7 +94,7 @@ impl SendBuffers {
     pub(crate) fn settle(&mut self, outcome: Outcome)
         requires { self.old.done < self.old.used }
         ensures waits { unsettled self.new ≡ drop 1 (unsettled self.old) }
-        ensures told { uncollected self.new ≡ uncollected self.old ++ outcome ∷ [] }
+        ensures told { uncollected self.new ≡ uncollected self.old ++ outcome_number outcome ∷ [] }
         ensures count { (self.new.done ≡ self.old.done + 1) × (self.new.used ≡ self.old.used) }
     {
         self.buffers[(self.head + self.done) % CAPACITY].outcome = outcome;
@@ -104,7 +105,7 @@ impl SendBuffers {
     #[tactic(auto, using(buffer::proofs::Turns::length_turns, crate::proofs::Rest::one_settled))]
     pub(crate) fn settle_rest(&mut self)
         ensures waits { unsettled self.new ≡ [] }
-        ensures told { uncollected self.new ≡ uncollected self.old ++ replicate (length (unsettled self.old)) NoConnection }
+        ensures told { uncollected self.new ≡ uncollected self.old ++ replicate (length (unsettled self.old)) (outcome_number NoConnection) }
         ensures count { self.new.done ≡ self.new.used }
     {
         for _ in 0..self.unsettled() {
@@ -114,7 +115,7 @@ impl SendBuffers {
 
     // The oldest outcome not collected.
     pub(crate) fn oldest_outcome(&self) -> Option<Outcome>
-        ensures value { result ≡ slice_get (uncollected self.now) 0 }
+        ensures value { option_map outcome_number result ≡ slice_get (uncollected self.now) 0 }
         ensures some { OnSome result (0 < self.now.done) }
     {
         (self.done > 0).then_some(self.buffers[self.head].outcome)
