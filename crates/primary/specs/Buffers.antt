@@ -1,5 +1,5 @@
 -- The two lists that the table of send buffers stands for, oldest first. Assumes nothing.
-use Rattle.std.specs.Prelude.{◌≡◌, ℕ, ◌+◌, ◌-◌, List, [], ◌∷◌, ◌++◌, replicate}
+use Rattle.std.specs.Prelude.{◌≡◌, ℕ, ◌+◌, ◌-◌, List, [], ◌∷◌, ◌++◌, replicate, slice_index_or}
 use Rattle.std.proofs.Common.{lit≤}
 use Rattle.buffer.specs.Buffers.{contents}
 use Rattle.buffer.specs.Turns.{turns}
@@ -24,6 +24,10 @@ unsettled t = turns message_in blank t.buffers t.head t.done (t.used - t.done)
 -- the numbers of the outcomes not collected
 abbrev pub uncollected : SendBuffers → List ℕ
 uncollected t = turns outcome_in blank t.buffers t.head 0 t.done
+
+-- the message in the record at a place of the table, whether it is in use or free
+abbrev pub message_at : ℕ → SendBuffers → List ℕ
+message_at place t = message_in (slice_index_or t.buffers place blank)
 
 -- from t to t' the message m was added
 pub record Accepted (m : List ℕ) (t t' : SendBuffers) : Type 0 where

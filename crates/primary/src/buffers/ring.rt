@@ -4,7 +4,7 @@ ghost use Rattle.std.specs.List.{slice_get};
 ghost use Rattle.std.specs.Option.{option_map};
 ghost use Rattle.buffer.specs.Buffers.{contents};
 ghost use Rattle.packet.specs.Refusals.{answer, judged};
-ghost use Rattle.primary.specs.Buffers.{unsettled, uncollected, Accepted};
+ghost use Rattle.primary.specs.Buffers.{unsettled, uncollected, message_at, Accepted};
 ghost use Rattle.primary.specs.declared.outcome.Outcome.TheVariants.{NoConnection};
 ghost use Rattle.primary.specs.Outcomes.{outcome_number};
 ghost use Rattle.primary.specs.Rules.{message_rules, room_rules};
@@ -121,14 +121,16 @@ impl SendBuffers {
         (self.done > 0).then_some(self.buffers[self.head].outcome)
     }
 
-    // Frees the buffer of the oldest outcome.
-    #[tactic(auto, using(buffer::proofs::Turns::later_kept, buffer::proofs::Turns::first_of))]
+    // Frees the buffer of the oldest outcome, and empties it: a message that was collected does not stay in memory.
+    #[tactic(auto, using(crate::proofs::Freed::later_stay, crate::proofs::Freed::first_goes))]
     pub(crate) fn free_oldest(&mut self)
         requires { 0 < self.old.done }
         ensures waits { unsettled self.new ≡ unsettled self.old }
         ensures told { uncollected self.new ≡ drop 1 (uncollected self.old) }
         ensures count { (self.new.done + 1 ≡ self.old.done) × (self.new.used + 1 ≡ self.old.used) }
+        ensures emptied { message_at self.old.head self.new ≡ [] }
     {
+        self.buffers[self.head].message = Buffer::new();
         self.head = (self.head + 1) % CAPACITY;
         self.done -= 1;
         self.used -= 1;

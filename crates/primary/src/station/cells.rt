@@ -212,7 +212,7 @@ impl Primary {
         }
     }
 
-    // Tells the oldest uncollected outcome and frees its buffer, or refuses with 20.
+    // Tells the oldest uncollected outcome and frees its buffer, which then keeps no message, or refuses with 20.
     pub fn collect(&mut self) -> Result<Outcome, Refusal>
         ensures value { answer outcome_number result ≡ oldest (model self.old).outcomes }
         ensures after { model self.new ≡ collected (model self.old) }

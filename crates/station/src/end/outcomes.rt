@@ -16,7 +16,7 @@ use primary::outcome::Outcome;
 use secondary::station::DeliverySlip;
 
 impl<K: Check> End<K> {
-    // Tells the oldest outcome that was not collected and frees its buffer, or refuses with 20.
+    // Tells the oldest outcome that was not collected and frees its buffer, which then keeps no message, or refuses with 20.
     pub fn collect(&mut self) -> Result<Outcome, Refusal>
         ensures value { answer outcome_number result ≡ oldest (model self.old).primary.outcomes }
         ensures after { model self.new ≡ with_primary (collected (model self.old).primary) (model self.old) }
