@@ -4,10 +4,9 @@ use Rattle.std.specs.Option.{option_map, unwrap_or}
 use Rattle.notation.specs.Hex.{hex}
 use Rattle.packet.specs.Refusals.{Answer, refused, gave}
 use Rattle.primary.specs.declared.event.Timer.{Timer}
-use Rattle.primary.specs.declared.outcome.Outcome.{Outcome}
 use Rattle.primary.specs.Names.{timer_text}
 use Rattle.primary.specs.declared.outcome.Tally.{Tally}
-use Rattle.primary.specs.Outcomes.{outcome_number, tally_text}
+use Rattle.primary.specs.Outcomes.{tally_text}
 use Rattle.station.specs.End.{Done, burst}
 use Rattle.station.specs.Reports.{Told, telling}
 use Rattle.answers.specs.Lines.{end, refusal, text_or_none}
@@ -42,9 +41,9 @@ done_line check word (refused n) = refusal n
 done_line check word (gave d) = word ++ report (telling check d) (burst check d.sent)
 
 -- `outcome=1`
-abbrev pub outcome_line : Answer Outcome → List ℕ
+abbrev pub outcome_line : Answer ℕ → List ℕ
 outcome_line (refused n) = refusal n
-outcome_line (gave o) = codes "outcome=" ++ (decimal (outcome_number o) ++ end)
+outcome_line (gave o) = codes "outcome=" ++ (decimal o ++ end)
 
 abbrev pub set_line : {A : Type 0} → Answer A → List ℕ
 set_line (refused n) = refusal n

@@ -12,6 +12,7 @@ use packet::sum::Sum;
 use packet::xor::Xor;
 
 // Two check bytes: that of the sum and that of the exclusive or.
+#[derive(Drop)]
 pub struct Pair;
 
 impl Check for Pair {
@@ -39,6 +40,7 @@ impl Check for Pair {
 }
 
 // Five check bytes: the pair, the pair turned round, and the sum again.
+#[derive(Drop)]
 pub struct Five;
 
 impl Check for Five {

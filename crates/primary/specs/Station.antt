@@ -1,7 +1,6 @@
 -- A primary station as it is thought of, what it hears and what it does. Assumes nothing.
 use Rattle.std.specs.Prelude.{ℕ, Bool, true, false, List, [], ◌∷◌, Some, None, Option}
 use Rattle.primary.specs.declared.event.Timer.{Timer}
-use Rattle.primary.specs.declared.outcome.Outcome.{Outcome}
 
 abbrev pub Message : Type 0
 Message = List ℕ
@@ -13,13 +12,13 @@ pub data Phase : Type 0 where
   waiting : Message → List Message → Phase
   asking : Message → List Message → Phase
 
--- The outcomes are those not collected, oldest first. A number 0 is false, a number 1 is true.
+-- The outcomes are those not collected, oldest first, each by its number. A message's number 0 is false, 1 is true.
 pub record Station : Type 0 where
   pub phase : Phase
   pub number : Bool
   pub attempts : ℕ
   pub credit : ℕ
-  pub outcomes : List Outcome
+  pub outcomes : List ℕ
 
 pub data Heard : Type 0 where
   submission : Message → Heard

@@ -3,8 +3,7 @@ use Rattle.std.specs.Prelude.{ℕ, ◌+◌, min, Bool, true, cond, not, List, []
 use Rattle.std.specs.Bool.{beq}
 use Rattle.packet.specs.Refusals.{Answer, Rule, ◌⇒◌, judged}
 use Rattle.primary.specs.declared.event.Timer.TheVariants as timer
-use Rattle.primary.specs.declared.outcome.Outcome.{Outcome}
-use Rattle.primary.specs.declared.outcome.Outcome.TheVariants.{Arrived, GivenUp, NoConnection}
+use Rattle.primary.specs.Outcomes.{arrived, given_up, no_connection}
 use Rattle.primary.specs.Rules.{message_rules, room_rules}
 use Rattle.primary.specs.Station.{Message, Phase, off, ready, waiting, asking, Station, Heard, submission, reset, ack, timeout, ENQ, DATA, Did, unsettled_in, is_off}
 
@@ -18,7 +17,7 @@ at ph s = moved ph s.number s.attempts s
 abbrev pub credited : ℕ → Station → Station
 credited k s = record { phase = s.phase; number = s.number; attempts = s.attempts; credit = k; outcomes = s.outcomes }
 
-abbrev pub told : List Outcome → Station → Station
+abbrev pub told : List ℕ → Station → Station
 told os s = record { phase = s.phase; number = s.number; attempts = s.attempts; credit = s.credit; outcomes = s.outcomes ++ os }
 
 abbrev pub once_more : ℕ → ℕ
@@ -40,12 +39,12 @@ sends_next m ms n s = record { next = moved (waiting m ms) (not s.number) 0 s; s
 
 -- the current message arrived, and ms wait behind it
 abbrev pub arrives : List Message → Station → Did
-arrives [] s = record { next = moved ready s.number 0 (told (Arrived ∷ []) s); sent = None; timer = None; arrivals = 1; give_ups = 0; no_connections = 0 }
-arrives (m ∷ ms) s = sends_next m ms 1 (told (Arrived ∷ []) s)
+arrives [] s = record { next = moved ready s.number 0 (told (arrived ∷ []) s); sent = None; timer = None; arrivals = 1; give_ups = 0; no_connections = 0 }
+arrives (m ∷ ms) s = sends_next m ms 1 (told (arrived ∷ []) s)
 
 -- the current message is given up, and ms wait behind it
 abbrev pub gives_up : List Message → Station → Did
-gives_up ms s = record { next = moved off s.number 1 (told (GivenUp ∷ replicate (length ms) NoConnection) s); sent = Some ENQ; timer = Some timer.Enq; arrivals = 0; give_ups = 1; no_connections = length ms }
+gives_up ms s = record { next = moved off s.number 1 (told (given_up ∷ replicate (length ms) no_connection) s); sent = Some ENQ; timer = Some timer.Enq; arrivals = 0; give_ups = 1; no_connections = length ms }
 
 -- no answer came, with attempt limit M
 abbrev pub expires : ℕ → Message → List Message → Station → Did

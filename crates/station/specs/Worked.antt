@@ -3,8 +3,7 @@ use Rattle.std.specs.Prelude.{◌≡◌, ℕ, List, [], ◌∷◌}
 use Rattle.packet.specs.Checks.{sum_check}
 use Rattle.packet.specs.Refusals.{Answer, refused, gave}
 use Rattle.packet.specs.Worked as packets
-use Rattle.primary.specs.declared.outcome.Outcome.{Outcome}
-use Rattle.primary.specs.declared.outcome.Outcome.TheVariants.{Arrived, GivenUp}
+use Rattle.primary.specs.Outcomes.{arrived, given_up}
 use Rattle.primary.specs.Station.{Phase, off, ready}
 use Rattle.secondary.specs.Worked as answers
 use Rattle.settings.specs.Worked as frames
@@ -51,7 +50,7 @@ noted [] bs = bs
 noted (b ∷ rest) bs = (b ∷ rest) ∷ bs
 
 -- the bursts that a list of calls sends, and after it the outcomes not collected and the phase
-abbrev run : List Call → End → List (List ℕ) × List Outcome × Phase
+abbrev run : List Call → End → List (List ℕ) × List ℕ × Phase
 run [] e = ([], e.primary.outcomes, e.primary.phase)
 run (k ∷ ks) e = let r = run ks (after 1 sum_check k e) in (noted (sent k e) r.0, r.1, r.2)
 
@@ -63,8 +62,8 @@ abbrev pub Worked : Type 0
 Worked =
     packets.Worked × frames.Worked × answers.Worked
     -- M = 2: RESET, "OK" submitted, timeout, ACK_1, timeout
-    × (run (Arrive RESET ∷ Submit OK ∷ Expire ∷ Arrive ACK_1 ∷ Expire ∷ []) (fresh 2 8) ≡ (DATA_0_OK ∷ ENQ ∷ DATA_0_OK ∷ ENQ ∷ [], GivenUp ∷ [], off))
+    × (run (Arrive RESET ∷ Submit OK ∷ Expire ∷ Arrive ACK_1 ∷ Expire ∷ []) (fresh 2 8) ≡ (DATA_0_OK ∷ ENQ ∷ DATA_0_OK ∷ ENQ ∷ [], given_up ∷ [], off))
     -- M = 2: RESET, "OK" submitted, timeout, ACK_0
-    × (run (Arrive RESET ∷ Submit OK ∷ Expire ∷ Arrive ACK_0 ∷ []) (fresh 2 8) ≡ (DATA_0_OK ∷ ENQ ∷ [], Arrived ∷ [], ready))
+    × (run (Arrive RESET ∷ Submit OK ∷ Expire ∷ Arrive ACK_0 ∷ []) (fresh 2 8) ≡ (DATA_0_OK ∷ ENQ ∷ [], arrived ∷ [], ready))
     -- R = 1 and one delivery held: ENQ gets no answer
     × (run (Arrive DATA_0_OK ∷ Arrive ENQ ∷ []) (fresh 2 1) ≡ ((0x02 ∷ 0x41 ∷ 0x30 ∷ 0x03 ∷ 0xf4 ∷ []) ∷ [], [], off))

@@ -1,6 +1,12 @@
-// Messages at the limits of their length, and the frame that once changed settings while it was refused.
+// Messages at the limits of their length, the frame that once changed settings while it was refused, and ends of a user's kinds.
+use packet::checks::Check;
+use packet::letter::Letter;
+use packet::number::Number;
+use packet::reader::read;
 use packet::refusal::Refusal;
 use packet::sum::Sum;
+use packet::writer::write;
+use packet_tests::kinds::{Five, Pair};
 use primary::station::{State, Status};
 use settings::values::Settings;
 use station::end::End;
@@ -43,6 +49,19 @@ fn refuses(rt: &impl Abort, end: &mut End<Sum>, state: State) {
     assert!(rt; before == seen(end));
 }
 
+// What an end of this kind sends for "OK" once RESET has arrived: letter and length, if it reads back as that message.
+fn sent_for_ok<K: Check>(kind: K) -> Option<(Letter, usize)> {
+    let message: &[u8] = b"OK";
+    let mut place = [0u8; 104];
+    let mut burst = [0u8; 104];
+    let length = write::<K>(b'R', &[], &mut burst).ok()?;
+    let (mut end, _) = End::new(kind, 0, &FRAME, &mut place).ok()?;
+    end.arrive(burst.get(..length)?, &mut place).ok()?;
+    let sent = end.submit(message, &mut place).ok()?.sent?;
+    let packet = read::<K>(place.get(..sent.length)?).ok()?;
+    (packet.message() == Some(message)).then_some((packet.letter, sent.length))
+}
+
 #[test]
 fn messages_of_1_to_96_bytes_pass(rt: HostRuntime) {
     let mut place = [0u8; 104];
@@ -66,4 +85,11 @@ fn refused_frame_changes_nothing_in_any_state(rt: HostRuntime) {
     refuses(&rt, &mut end, State::Waiting);
     let _ = end.timeout(&mut place);
     refuses(&rt, &mut end, State::Asking);
+}
+
+#[test]
+fn a_users_kinds_serve_an_end(rt: HostRuntime) {
+    let data_0 = Letter::Data(Number::Zero);
+    assert_eq!(rt; sent_for_ok(Pair), Some((data_0, 7)));
+    assert_eq!(rt; sent_for_ok(Five), Some((data_0, 10)));
 }

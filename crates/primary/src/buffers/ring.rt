@@ -4,8 +4,9 @@ ghost use Rattle.std.specs.List.{slice_get};
 ghost use Rattle.std.specs.Option.{option_map};
 ghost use Rattle.buffer.specs.Buffers.{contents};
 ghost use Rattle.packet.specs.Refusals.{answer, judged};
-ghost use Rattle.primary.specs.Buffers.{unsettled, uncollected, Accepted};
+ghost use Rattle.primary.specs.Buffers.{unsettled, uncollected, message_at, Accepted};
 ghost use Rattle.primary.specs.declared.outcome.Outcome.TheVariants.{NoConnection};
+ghost use Rattle.primary.specs.Outcomes.{outcome_number};
 ghost use Rattle.primary.specs.Rules.{message_rules, room_rules};
 
 use crate::buffers::{SendBuffer, SendBuffers};
@@ -93,7 +94,7 @@ impl SendBuffers {
     pub(crate) fn settle(&mut self, outcome: Outcome)
         requires { self.old.done < self.old.used }
         ensures waits { unsettled self.new ≡ drop 1 (unsettled self.old) }
-        ensures told { uncollected self.new ≡ uncollected self.old ++ outcome ∷ [] }
+        ensures told { uncollected self.new ≡ uncollected self.old ++ outcome_number outcome ∷ [] }
         ensures count { (self.new.done ≡ self.old.done + 1) × (self.new.used ≡ self.old.used) }
     {
         self.buffers[(self.head + self.done) % CAPACITY].outcome = outcome;
@@ -104,7 +105,7 @@ impl SendBuffers {
     #[tactic(auto, using(buffer::proofs::Turns::length_turns, crate::proofs::Rest::one_settled))]
     pub(crate) fn settle_rest(&mut self)
         ensures waits { unsettled self.new ≡ [] }
-        ensures told { uncollected self.new ≡ uncollected self.old ++ replicate (length (unsettled self.old)) NoConnection }
+        ensures told { uncollected self.new ≡ uncollected self.old ++ replicate (length (unsettled self.old)) (outcome_number NoConnection) }
         ensures count { self.new.done ≡ self.new.used }
     {
         for _ in 0..self.unsettled() {
@@ -114,20 +115,22 @@ impl SendBuffers {
 
     // The oldest outcome not collected.
     pub(crate) fn oldest_outcome(&self) -> Option<Outcome>
-        ensures value { result ≡ slice_get (uncollected self.now) 0 }
+        ensures value { option_map outcome_number result ≡ slice_get (uncollected self.now) 0 }
         ensures some { OnSome result (0 < self.now.done) }
     {
         (self.done > 0).then_some(self.buffers[self.head].outcome)
     }
 
-    // Frees the buffer of the oldest outcome.
-    #[tactic(auto, using(buffer::proofs::Turns::later_kept, buffer::proofs::Turns::first_of))]
+    // Frees the buffer of the oldest outcome, and empties it: a message that was collected does not stay in memory.
+    #[tactic(auto, using(crate::proofs::Freed::later_stay, crate::proofs::Freed::first_goes))]
     pub(crate) fn free_oldest(&mut self)
         requires { 0 < self.old.done }
         ensures waits { unsettled self.new ≡ unsettled self.old }
         ensures told { uncollected self.new ≡ drop 1 (uncollected self.old) }
         ensures count { (self.new.done + 1 ≡ self.old.done) × (self.new.used + 1 ≡ self.old.used) }
+        ensures emptied { message_at self.old.head self.new ≡ [] }
     {
+        self.buffers[self.head].message = Buffer::new();
         self.head = (self.head + 1) % CAPACITY;
         self.done -= 1;
         self.used -= 1;

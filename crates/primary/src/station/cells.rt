@@ -5,6 +5,7 @@ ghost use Rattle.packet.specs.Refusals.{answer};
 ghost use Rattle.primary.specs.declared.station.State.TheVariants.{Off, Ready, Waiting, Asking};
 ghost use Rattle.primary.specs.Buffers.{unsettled};
 ghost use Rattle.primary.specs.Model.{model, did, heard, HasCurrent};
+ghost use Rattle.primary.specs.Outcomes.{outcome_number};
 ghost use Rattle.primary.specs.Rules.{oldest};
 ghost use Rattle.primary.specs.Station.{ready, submission, ack};
 ghost use Rattle.primary.specs.Table.{at, moved, credited, rests, asks, sends_again, sends_next, arrives, gives_up, expires, cell, step_of, collected};
@@ -211,9 +212,9 @@ impl Primary {
         }
     }
 
-    // Tells the oldest uncollected outcome and frees its buffer, or refuses with 20.
+    // Tells the oldest uncollected outcome and frees its buffer, which then keeps no message, or refuses with 20.
     pub fn collect(&mut self) -> Result<Outcome, Refusal>
-        ensures value { answer (λ o. o) result ≡ oldest (model self.old).outcomes }
+        ensures value { answer outcome_number result ≡ oldest (model self.old).outcomes }
         ensures after { model self.new ≡ collected (model self.old) }
         ensures unchanged { OnErr result (self.new ≡ self.old) }
     {

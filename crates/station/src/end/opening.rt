@@ -16,7 +16,7 @@ use primary::station::{Primary, State};
 use secondary::station::Secondary;
 use settings::settings::parse;
 
-impl<K: Check + Drop> End<K> {
+impl<K: Check> End<K> {
     // Opens an end on the line of this number: ENQ is sent. Refused with 8 to 13 by the settings frame.
     #[tactic(auto, using(crate::proofs::Orders::in_order))]
     pub fn new(
@@ -40,9 +40,7 @@ impl<K: Check + Drop> End<K> {
         let report = end.command(Step::enq(), place);
         Ok((end, report))
     }
-}
 
-impl<K: Check> End<K> {
     // Whether the primary station waits for an answer.
     fn awaiting(&self) -> bool
         ensures { result ≡ awaiting (model self.now).primary.phase }

@@ -1,6 +1,7 @@
 // Outcomes that are collected, and deliveries that are taken and given back.
 ghost use Rattle.std.specs.Prelude.{◌≡◌, length, IfOk, OnErr};
 ghost use Rattle.packet.specs.Refusals.{answer};
+ghost use Rattle.primary.specs.Outcomes.{outcome_number};
 ghost use Rattle.primary.specs.Rules.{oldest};
 ghost use Rattle.primary.specs.Table.{collected};
 ghost use Rattle.secondary.specs.Station.{taken, take_answer, after_take, place_after, given, give_answer, after_give, handed_back, slips_after};
@@ -15,9 +16,9 @@ use primary::outcome::Outcome;
 use secondary::station::DeliverySlip;
 
 impl<K: Check> End<K> {
-    // Tells the oldest outcome that was not collected and frees its buffer, or refuses with 20.
+    // Tells the oldest outcome that was not collected and frees its buffer, which then keeps no message, or refuses with 20.
     pub fn collect(&mut self) -> Result<Outcome, Refusal>
-        ensures value { answer (λ o. o) result ≡ oldest (model self.old).primary.outcomes }
+        ensures value { answer outcome_number result ≡ oldest (model self.old).primary.outcomes }
         ensures after { model self.new ≡ with_primary (collected (model self.old).primary) (model self.old) }
         ensures unchanged { OnErr result (self.new ≡ self.old) }
     {
