@@ -42,6 +42,10 @@ kind w = cond (bytes_eq w (codes "sum")) (Some Sum) (cond (bytes_eq w (codes "xo
 abbrev pub bytes : List ℕ → Result (List ℕ × List ℕ) Fault
 bytes line = cond (slice_index (trimmed line) 0 == 0x27) (Ok (drop 1 (trimmed line), [])) (argument unhex fault.Bytes line)
 
+-- what they leave of the line: nothing after an apostrophe
+abbrev pub bytes_left : List ℕ → List ℕ
+bytes_left line = cond (slice_index (trimmed line) 0 == 0x27) [] (left line)
+
 -- the size of a place; the usual one where it is left out
 abbrev pub size_or : ℕ → List ℕ → Result (ℕ × List ℕ) Fault
 size_or usual line = cond (is_empty (word line)) (Ok (usual, left line)) (argument (size 65536) fault.Size line)
