@@ -10,10 +10,10 @@ ghost use Rattle.script_words.specs.declared.fault.Fault.TheVariants as fault;
 use crate::fault::Fault;
 use crate::words::{Bytes, Kind};
 use notation::hex::are_pairs;
-use notation::number::size;
+use notation::number::size_up_to;
 use notation::words::{split_word, trimmed};
 
-// The largest size of a place.
+// The size that a larger place is lent as, since no answer shows more of it: so no line can take the machine's memory.
 const LARGEST: u32 = 65536;
 
 // What is left to read of a line.
@@ -86,7 +86,7 @@ impl<'a> Arguments<'a> {
         ensures after { self.new.rest.now ≡ left self.old.rest.now }
     {
         match self.take_word() {
-            Some(word) => size(word, LARGEST).ok_or(Fault::Size),
+            Some(word) => size_up_to(word, LARGEST).ok_or(Fault::Size),
             None => Ok(usual),
         }
     }

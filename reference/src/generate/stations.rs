@@ -519,7 +519,7 @@ pub mod tests {
             "error: too few words",
             "error: KIND is sum or xor",
             "error: BYTES are pairs of hexadecimal digits",
-            "error: SIZE is a number from 0 to 65536",
+            "error: SIZE is a decimal number",
             "error: NAME is a or b",
             "error: LINE is a number from 0 to 255",
             "error: too many words",
