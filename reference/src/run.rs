@@ -92,6 +92,10 @@ mod tests {
         assert_eq!(answer(b"packet write sum 30 'OK"), ok);
         assert_eq!(answer(b"packet write sum 30 4f4B 6"), ok);
         assert_eq!(answer(b"packet write sum 30 4f4B 5"), "refused 29\n");
+        for size in ["65536", "65537", "18446744073709551616", &"9".repeat(100)] {
+            let line = format!("packet write sum 30 4f4B {size}");
+            assert_eq!(answer(line.as_bytes()), ok);
+        }
         let spaces = "length=6 burst=02304B2003";
         assert!(answer(b"packet write sum 30 'K ").starts_with(spaces));
         assert_eq!(
@@ -103,7 +107,7 @@ mod tests {
 
     #[test]
     fn the_first_wrong_word_decides() {
-        let cases: [(&[u8], &str); 15] = [
+        let cases: [(&[u8], &str); 16] = [
             (b"pack", "unknown command"),
             (b"packet", "too few words"),
             (b"packet reed", "unknown command"),
@@ -126,14 +130,12 @@ mod tests {
                 "BYTES are pairs of hexadecimal digits",
             ),
             (
-                b"packet write sum 45 - 65537 x",
-                "SIZE is a number from 0 to 65536",
+                b"packet write sum 45 - 65537x x",
+                "SIZE is a decimal number",
             ),
-            (
-                b"packet write sum 45 - 'OK x",
-                "SIZE is a number from 0 to 65536",
-            ),
+            (b"packet write sum 45 - 'OK x", "SIZE is a decimal number"),
             (b"packet write sum 45 - 104 x", "too many words"),
+            (b"packet write sum 45 - 65537 x", "too many words"),
         ];
         for (line, text) in cases {
             assert_eq!(answer(line), format!("error: {text}\n"));
@@ -306,6 +308,7 @@ mod tests {
             ("end b give a", "given back"),
             ("end a take", "refused 22"),
             ("end a take 0", "refused 21"),
+            ("end a take 4294967296", "refused 22"),
             ("end a give", "error: no slip is kept"),
             ("end a open 5 sum -", "error: a slip is kept"),
             ("end b take", "error: a slip is kept"),
@@ -347,10 +350,7 @@ mod tests {
             ("end a timeout x", "error: too many words"),
             ("end a timeout", no_end),
             ("end a arrive - -", "error: too many words"),
-            (
-                "end a take 65537",
-                "error: SIZE is a number from 0 to 65536",
-            ),
+            ("end a take 65537x", "error: SIZE is a decimal number"),
             ("end a take 96 x", "error: too many words"),
             ("end a take", no_end),
             ("end a give c", "error: NAME is a or b"),

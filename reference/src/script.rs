@@ -36,7 +36,7 @@ impl fmt::Display for Error {
             Error::Kind => "KIND is sum or xor",
             Error::Letter => "LETTER is one byte in hexadecimal",
             Error::Bytes => "BYTES are pairs of hexadecimal digits",
-            Error::Size => "SIZE is a number from 0 to 65536",
+            Error::Size => "SIZE is a decimal number",
             Error::EndName => "NAME is a or b",
             Error::Line => "LINE is a number from 0 to 255",
             Error::MediumName => "NAME is m or n",
@@ -209,9 +209,9 @@ impl<'a> Words<'a> {
         bytes(self.due()?).map(Cow::Owned)
     }
 
-    /// SIZE, which may be left out.
+    /// SIZE, which may be left out. A larger one than 65536 counts as 65536.
     pub fn size(&mut self) -> Result<Option<usize>, Error> {
-        let size = |word| number(word, 65536).ok_or(Error::Size);
+        let size = |word| number_up_to(word, 65536).ok_or(Error::Size);
         self.next_word().map(size).transpose()
     }
 
@@ -287,13 +287,17 @@ fn end_name(word: &[u8]) -> Result<usize, Error> {
 
 /// One or more decimal digits, of a number from 0 to `most`.
 fn number(word: &[u8], most: usize) -> Option<usize> {
+    number_up_to(word, most + 1).filter(|&number| number <= most)
+}
+
+/// One or more decimal digits: their number, or `most` where it is larger.
+fn number_up_to(word: &[u8], most: usize) -> Option<usize> {
     if word.is_empty() || !word.iter().all(u8::is_ascii_digit) {
         return None;
     }
     // A number that grows too large stays so, however many digits follow.
     let digits = word.iter().map(|digit| usize::from(digit - b'0'));
-    let number = digits.fold(0, |number, digit| (number * 10 + digit).min(most + 1));
-    Some(number).filter(|&number| number <= most)
+    Some(digits.fold(0, |number, digit| (number * 10 + digit).min(most)))
 }
 
 /// PATTERN: one to eight hexadecimal digits.
@@ -417,21 +421,27 @@ mod tests {
     }
 
     #[test]
-    fn a_size_is_a_number_up_to_65536() {
+    fn a_size_is_a_decimal_number_and_65536_is_enough() {
         assert_eq!(Words::new(b"").size(), Ok(None));
         let sizes = [
             (&b"0"[..], 0),
             (b"007", 7),
+            (b"65535", 65535),
             (b"65536", 65536),
             (b"00000065536", 65536),
+            (b"65537", 65536),
+            (b"4294967296", 65536),
+            (b"18446744073709551616", 65536),
+            (b"18446744073709551620", 65536),
+            (&[b'9'; 100], 65536),
         ];
         for (word, number) in sizes {
             assert_eq!(Words::new(word).size(), Ok(Some(number)));
         }
         let wrong: [&[u8]; 6] = [
-            b"65537",
-            b"99999999999999999999999",
-            b"18446744073709551620",
+            b"65537x",
+            b"x65537",
+            b"1844674407370955162O",
             b"+1",
             b"-1",
             b"1\t",

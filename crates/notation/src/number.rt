@@ -1,20 +1,35 @@
 // Numbers of a script.
-ghost use Rattle.std.specs.Prelude.{◌≡◌};
-ghost use Rattle.notation.specs.Numbers.{size};
+ghost use Rattle.std.specs.Prelude.{◌≡◌, ◌-◌, ◌^◌, min};
+ghost use Rattle.std.specs.Option.{option_map};
+ghost use Rattle.notation.specs.Numbers.{decimal, size, size_up_to};
 
-// One or more decimal digits, of a number from 0 to `largest`.
-// Not one function with `pattern`: one stops at a number and one at eight digits, and the digits differ.
+// One or more decimal digits; a number too large for `usize` is told as its largest one.
+// Not one function with `pattern`: one has no end of digits and one at most eight, and the digits differ.
 #[tactic(auto, using(crate::proofs::Sizes::number_more, crate::proofs::Sizes::no_digit, crate::proofs::Sizes::digits_tell))]
-pub fn size(word: &[u8], largest: u32) -> Option<usize>
-    ensures { result ≡ size largest word.now }
+fn decimal(word: &[u8]) -> Option<usize>
+    ensures { result ≡ option_map (λ n. min n (2 ^ 64 - 1)) (decimal word.now) }
 {
     let mut n = 0usize;
     for c in word {
         if !c.is_ascii_digit() {
             return None;
         }
-        // A number too large for `usize` stays past the largest one.
         n = n.saturating_mul(10).saturating_add(usize::from(*c - b'0'));
     }
-    (!word.is_empty() && n <= largest as usize).then_some(n)
+    (!word.is_empty()).then_some(n)
+}
+
+// The same, of a number from 0 to `largest`.
+pub fn size(word: &[u8], largest: u32) -> Option<usize>
+    ensures { result ≡ size largest word.now }
+{
+    let n = decimal(word)?;
+    (n <= largest as usize).then_some(n)
+}
+
+// The number of one or more decimal digits, or `most` where it is larger.
+pub fn size_up_to(word: &[u8], most: u32) -> Option<usize>
+    ensures { result ≡ size_up_to most word.now }
+{
+    Some(decimal(word)?.min(most as usize))
 }

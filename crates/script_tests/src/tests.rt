@@ -24,11 +24,12 @@ fn the_first_wrong_word_decides(rt: HostRuntime) -> Result<(), AllocError> {
             "packet write sum 45 xyz x",
             "BYTES are pairs of hexadecimal digits",
         ),
+        ("packet write sum 45 - 65537x x", "SIZE is a decimal number"),
         (
-            "packet write sum 45 - 65537 x",
-            "SIZE is a number from 0 to 65536",
+            "packet write sum 45 - 18446744073709551616 x",
+            "too many words",
         ),
-        ("packet write sum 45 - 65536 x", "too many words"),
+        ("packet write sum 45 - 18446744073709551616", ""),
         ("packet write sum 45", "too few words"),
     ] {
         let told = fault(rt.alloc(), line)?;
@@ -59,6 +60,8 @@ fn end_and_settings_faults_are_told(rt: HostRuntime) -> Result<(), AllocError> {
         ("end a mend", "unknown command"),
         ("end a open 256 sum 01", "LINE is a number from 0 to 255"),
         ("end b give c", "NAME is a or b"),
+        ("end b take +96", "SIZE is a decimal number"),
+        ("end b take 65537", ""),
         ("end b state 0", "too many words"),
     ] {
         let told = fault(rt.alloc(), line)?;

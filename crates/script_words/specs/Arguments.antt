@@ -3,7 +3,7 @@ use Rattle.std.specs.Prelude.{ℕ, Bool, cond, ◌||◌, List, [], length, drop,
 use Rattle.std.specs.Option.{option_map, ok_or}
 use Rattle.std.specs.Str.{bytes_eq}
 use Rattle.notation.specs.Hex.{unhex}
-use Rattle.notation.specs.Numbers.{size}
+use Rattle.notation.specs.Numbers.{size_up_to}
 use Rattle.notation.specs.Words.{trimmed, word, left}
 use Rattle.script_words.specs.declared.words.Kind.{Kind}
 use Rattle.script_words.specs.declared.words.Kind.TheVariants.{Sum, Xor}
@@ -42,9 +42,13 @@ kind w = cond (bytes_eq w (codes "sum")) (Some Sum) (cond (bytes_eq w (codes "xo
 abbrev pub bytes : List ℕ → Result (List ℕ × List ℕ) Fault
 bytes line = cond (slice_index (trimmed line) 0 == 0x27) (Ok (drop 1 (trimmed line), [])) (argument unhex fault.Bytes line)
 
--- the size of a place; the usual one where it is left out
+-- what they leave of the line: nothing after an apostrophe
+abbrev pub bytes_left : List ℕ → List ℕ
+bytes_left line = cond (slice_index (trimmed line) 0 == 0x27) [] (left line)
+
+-- the size of a place: any number, a larger one than 65536 being taken as 65536; the usual one where it is left out
 abbrev pub size_or : ℕ → List ℕ → Result (ℕ × List ℕ) Fault
-size_or usual line = cond (is_empty (word line)) (Ok (usual, left line)) (argument (size 65536) fault.Size line)
+size_or usual line = cond (is_empty (word line)) (Ok (usual, left line)) (argument (size_up_to 65536) fault.Size line)
 
 -- what a line was read as, unless a word is left over
 abbrev pub ended : {A : Type 0} → A → List ℕ → Result A Fault

@@ -33,7 +33,7 @@ impl fmt::Display for Fault {
             Fault::Kind => "KIND is sum or xor",
             Fault::Letter => "LETTER is one byte in hexadecimal",
             Fault::Bytes => "BYTES are pairs of hexadecimal digits",
-            Fault::Size => "SIZE is a number from 0 to 65536",
+            Fault::Size => "SIZE is a decimal number",
             Fault::EndName => "NAME is a or b",
             Fault::Line => "LINE is a number from 0 to 255",
             Fault::MediumName => "NAME is m or n",

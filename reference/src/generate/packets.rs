@@ -255,6 +255,15 @@ fn sizes(script: &mut Script) {
             }
         }
     }
+    script.section("places larger than any memory");
+    for size in words::HUGE_SIZE.split(' ') {
+        for kind in Kind::ALL {
+            let kind = kind.name().as_bytes();
+            script.words(&[b"packet write", kind, b"30 4F4B", size.as_bytes()]);
+            script.words(&[b"packet write", kind, b"41 39", size.as_bytes()]);
+            script.words(&[b"packet write", kind, b"45 -", size.as_bytes(), b"x"]);
+        }
+    }
     script.section("a packet of six bytes into places of 0 to 12 bytes");
     for size in 0..=12 {
         for kind in Kind::ALL {
@@ -720,14 +729,14 @@ fn wrong_arguments(script: &mut Script) {
         script.words(&[b"packet read", word]);
         script.words(&[b"packet read", word, b"024503C8"]);
         script.words(&[b"packet write", word, b"45 -"]);
-        script.spaced(&[b"packet", b"write", word, b"G", b"0", b"65537", b"x"]);
+        script.spaced(&[b"packet", b"write", word, b"G", b"0", b"65537x", b"x"]);
     }
     script.section("wrong words for LETTER");
     for word in words::LETTER.split(' ') {
         let word = word.as_bytes();
         script.words(&[b"packet write sum", word]);
         script.words(&[b"packet write sum", word, b"-"]);
-        script.spaced(&[b"packet", b"write", b"xor", word, b"0", b"65537", b"x"]);
+        script.spaced(&[b"packet", b"write", b"xor", word, b"0", b"65537x", b"x"]);
     }
     script.section("wrong words for BYTES and FIELD");
     for word in words::BYTES.split(' ') {
@@ -755,7 +764,7 @@ fn first_wrong_word(script: &mut Script) {
         [b"sum", b"sun"],
         [b"41", b"4"],
         [b"38", b"3x"],
-        [b"104", b"65537"],
+        [b"104", b"65537x"],
         [b"x", b"'"],
     ];
     let read: [[&[u8]; 2]; 5] = [
@@ -845,6 +854,7 @@ fn line_lengths(script: &mut Script) {
     script.joined(&[b"packet write sum 45 - ", &zeros, b"3"]);
     script.joined(&[b"packet write sum 45 - ", &zeros, b"65537"]);
     script.joined(&[b"packet write sum 45 - 1", &zeros]);
+    script.joined(&[b"packet write sum 45 - 1", &zeros, b"x"]);
     script.joined(&[b"packet write sum 45 ", &zeros]);
     script.joined(&[b"packet write sum 45 ", &zeros, b"0"]);
     script.joined(&[b"packet write sum ", &zeros, b"45 -"]);
@@ -1008,7 +1018,7 @@ mod tests {
             "error: KIND is sum or xor",
             "error: LETTER is one byte in hexadecimal",
             "error: BYTES are pairs of hexadecimal digits",
-            "error: SIZE is a number from 0 to 65536",
+            "error: SIZE is a decimal number",
             "error: too many words",
         ] {
             assert!(counts[&(true, answer)] >= 20, "{answer}");

@@ -18,7 +18,7 @@ pub const SECTIONS: [fn(&mut Script); 7] = [
 ];
 
 /// Calls with right words.
-const CALLS: [&str; 16] = [
+const CALLS: [&str; 17] = [
     "submit 4F4B",
     "submit 'OK",
     "submit -",
@@ -28,6 +28,7 @@ const CALLS: [&str; 16] = [
     "take",
     "take 95",
     "take 65536",
+    "take 18446744073709551616",
     "give",
     "give a",
     "give b",
@@ -53,7 +54,7 @@ fn before_opening(script: &mut Script) {
         "arrive",
         "arrive x",
         "take x",
-        "take 65537",
+        "take 65537x",
         "take 96 x",
         "give x",
         "give a b",
@@ -129,7 +130,7 @@ fn unknown_commands(script: &mut Script) {
         script.words(&[b"end", word]);
         script.words(&[b"end", word, b"state"]);
         script.words(&[b"end", word, b"status"]);
-        script.words(&[b"end", word, b"take 65537"]);
+        script.words(&[b"end", word, b"take 65537x"]);
         script.spaced(&[b"end", word, b"open", b"x", b"y", b"z"]);
     }
     script.section("unknown third words");

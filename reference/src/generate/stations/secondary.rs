@@ -1,6 +1,7 @@
 //! Sections on the secondary station, its deliveries and their slips.
 
 use super::{stages, told, Frame, Script, Seat, NAMES};
+use crate::generate::words;
 use crate::packet::{Kind, LONGEST};
 
 pub const SECTIONS: [fn(&mut Script); 8] = [
@@ -192,6 +193,14 @@ fn deliveries(script: &mut Script) {
             }
             script.call(seat.name, "give");
         }
+    }
+    script.section("into places larger than any memory");
+    for size in words::HUGE_SIZE.split(' ') {
+        script.hear(seat, b'0', b"OK");
+        script.call(seat.name, format!("take {size}"));
+        script.call(seat.name, format!("take {size}"));
+        script.call(seat.name, "give");
+        script.call(seat.name, format!("take {size}"));
     }
     script.section("short ones after long ones");
     for length in [96, 1, 95, 2, 96, 1, 50, 3, 1] {

@@ -3,7 +3,7 @@ use Rattle.std.specs.Char.{is_ascii_digit}
 use Rattle.std.specs.List.{list_all}
 use Rattle.notation.specs.Numbers.{number}
 use Rattle.notation.proofs.Sizes.{top}
-use Rattle.notation.proofs.number.size.Given as goal
+use Rattle.notation.proofs.number.decimal.Given as goal
 
 abbrev pub invariant-loop-c : goal.invariant-loop-c
 invariant-loop-c l = record {
