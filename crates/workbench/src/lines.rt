@@ -1,8 +1,8 @@
 // The lines of the input, of any length and any bytes.
-ghost use Rattle.std.specs.Prelude.{◌≡◌, None, Ok, OnOk};
-ghost use Rattle.workbench.specs.Ends.{StaysKnown, Ended};
+ghost use Rattle.std.specs.Prelude.{IfOk, IfSome};
+ghost use Rattle.workbench.specs.Lines.{Taken};
 
-use notation::words::trimmed;
+use script_words::arguments::Arguments;
 use std::alloc::Global;
 use std::io;
 use std::io::{BufRead, ErrorKind};
@@ -17,25 +17,27 @@ pub(crate) fn take_line<R: BufRead>(
     input: &mut R,
     line: &mut Vec<u8>,
 ) -> io::Result<Option<Result<(), TooLong>>>
-    ensures known { OnOk result (StaysKnown (R.Read.remaining input.old) (R.Read.remaining input.new)) }
-    ensures end { result ≡ Ok None → Ended (R.Read.remaining input.old) (R.Read.remaining input.new) }
+    ensures { IfOk result (λ taken. IfSome (R.Read.remaining input.old) (λ script.
+        Taken script taken line.new.items (R.Read.remaining input.new))) }
 {
     line.clear();
-    // No type knows the input's length, which bounds the turns: each drops spaces, which say nothing, that filled the memory.
+    // No type knows the input's length, which bounds the turns: each but the last drops bytes that filled the memory.
     for _ in 0..u64::MAX {
         match input.read_until(b'\n', line) {
-            Ok(0) => return Ok(None),
+            Ok(_) if line.is_empty() => return Ok(None),
             Ok(_) => return Ok(Some(Ok(()))),
             Err(error) if error.kind() != ErrorKind::OutOfMemory => return Err(error),
-            Err(_) => {}
+            // No contract says that reading failed before the line's end.
+            Err(_) if line.contains(&b'\n') => return Ok(Some(Ok(()))),
+            // Of spaces, and of a comment, the first byte says as much as all of them.
+            Err(_) if line.len() > 1 && Arguments::of(line).is_none() => line.truncate(1),
+            Err(_) => {
+                let is_begun = !line.is_empty();
+                *line = Vec::new(heap);
+                let is_there = input.skip_until(b'\n')? > 0 || is_begun;
+                return Ok(is_there.then_some(Err(TooLong)));
+            }
         }
-        if line.is_empty() || !trimmed(line).is_empty() {
-            let is_comment = line.first() == Some(&b'#');
-            *line = Vec::new(heap);
-            input.skip_until(b'\n')?;
-            return Ok(Some(if is_comment { Ok(()) } else { Err(TooLong) }));
-        }
-        line.clear();
     }
     Err(io::Error::from(ErrorKind::Other))
 }

@@ -1,12 +1,12 @@
 // Answers a script: one line for each command of standard input.
 #![tactic(auto)]
 
+mod answering;
 mod lines;
 mod memory;
-mod script;
 
+use crate::answering::answer_lines;
 use crate::memory::{bursts, packed_medium};
-use crate::script::answer_lines;
 use bench::run::Workbench;
 use end_bench::ends::Ends;
 use named_media::media::{Media, NamedMedium};
