@@ -34,43 +34,50 @@ fn turn(number: usize) -> &'static str {
     NAMES[number % NAMES.len()]
 }
 
+/// They come first: once a name's medium was made, there is always one.
+pub const BEFORE_MAKING: [fn(&mut Script); 1] = [no_medium];
+
+pub const SECTIONS: [fn(&mut Script); 30] = [
+    first_bursts,
+    lengths,
+    second_bytes,
+    one_byte_bursts,
+    letters_together,
+    small_queues,
+    small_packed,
+    packed_edges,
+    packed_around,
+    patterns_of_noise,
+    patterns_of_losses,
+    noise_by_length,
+    noise_by_changing_lengths,
+    hit_and_full,
+    altered_letters,
+    what_moves_no_pattern,
+    lossy_over_each,
+    short_histories,
+    made_again,
+    full_queue,
+    full_noisy,
+    full_packed,
+    full_under_losses,
+    specs,
+    texts_and_cases,
+    unknown_commands,
+    too_few_and_too_many_words,
+    foreign_bytes,
+    random_histories,
+    random_lines,
+];
+
 /// The whole script. Its last line has no line end.
 pub fn media() -> Vec<u8> {
-    let sections: [fn(&mut Script); 31] = [
-        no_medium,
-        first_bursts,
-        lengths,
-        second_bytes,
-        one_byte_bursts,
-        letters_together,
-        small_queues,
-        small_packed,
-        packed_edges,
-        packed_around,
-        patterns_of_noise,
-        patterns_of_losses,
-        noise_by_length,
-        noise_by_changing_lengths,
-        hit_and_full,
-        altered_letters,
-        what_moves_no_pattern,
-        lossy_over_each,
-        short_histories,
-        made_again,
-        full_queue,
-        full_noisy,
-        full_packed,
-        full_under_losses,
-        specs,
-        texts_and_cases,
-        unknown_commands,
-        too_few_and_too_many_words,
-        foreign_bytes,
-        random_histories,
-        random_lines,
-    ];
-    Script::of(&sections, "medium n take")
+    let sections = [&BEFORE_MAKING[..], &SECTIONS].concat();
+    Script::of(&sections, LAST)
 }
+
+/// The last line.
+pub const LAST: &str = "medium n take";
 
 /// Lines that several sections need.
 impl Script {

@@ -8,6 +8,7 @@ mod walks;
 
 use super::{Case, Script};
 use crate::packet::{assemble, Kind};
+pub use lines::BEFORE_OPENING;
 
 const NAMES: [&str; 2] = ["a", "b"];
 
@@ -16,16 +17,23 @@ const STATES: [&str; 4] = ["Off", "Ready", "Waiting", "Asking"];
 
 /// The whole script. Its last line has no line end.
 pub fn stations() -> Vec<u8> {
+    Script::of(&[&BEFORE_OPENING[..], &sections()].concat(), LAST)
+}
+
+/// Its sections after those on calls before an end is opened.
+pub fn sections() -> Vec<fn(&mut Script)> {
     let sections = [
-        &lines::BEFORE_OPENING[..],
-        &frames::SECTIONS,
+        &frames::SECTIONS[..],
         &primary::SECTIONS,
         &secondary::SECTIONS,
         &walks::SECTIONS,
         &lines::SECTIONS,
     ];
-    Script::of(&sections.concat(), "end b state")
+    sections.concat()
 }
+
+/// The last line.
+pub const LAST: &str = "end b state";
 
 /// A settings frame, right or wrong.
 #[derive(Clone, Copy)]

@@ -1,13 +1,13 @@
 //! The script that the program is held to: packets, media and stations. The program may print less
 //! than a mebibyte, so each section of the subjects' scripts is thinned to what it may print.
 
-use super::{media, packets, stations};
+use super::{media, packets, stations, Script};
 use crate::run::Bench;
 
 /// How many bytes a section may print, by subject.
-const PACKETS: usize = 3000;
-const MEDIA: usize = 2500;
-const STATIONS: usize = 4000;
+const PACKETS: usize = 2600;
+const MEDIA: usize = 2000;
+const STATIONS: usize = 4700;
 
 /// The same for a section that leads to a limit far away, or through all states.
 const LONG: usize = 33_000;
@@ -23,19 +23,24 @@ const LONG_TITLES: [&str; 7] = [
     "R = 1 and 2, all numbers held",
 ];
 
-/// Packets, media and stations; the last, because a slip is kept at their end.
+/// The scripts of examples/. The first makes and opens nothing.
+const PACKETS_EXAMPLE: &[u8] = include_bytes!("../../../examples/packets.txt");
+const NOISE_EXAMPLE: &[u8] = include_bytes!("../../../examples/noise.txt");
+const STATION_EXAMPLE: &[u8] = include_bytes!("../../../examples/station.txt");
+
+/// The examples, with what comes before any making or opening between them; then
+/// packets, media and stations; the last, because a slip is kept at their end.
 /// The last line has no line end.
 pub fn workbench() -> Vec<u8> {
+    let before = [&media::BEFORE_MAKING[..], &stations::BEFORE_OPENING].concat();
     let mut thinned = Thinned::default();
-    for (script, most) in [
-        (packets(), PACKETS),
-        (media(), MEDIA),
-        (stations(), STATIONS),
-    ] {
-        for section in sections(&script) {
-            thinned.section(&section, most);
-        }
-    }
+    thinned.example(PACKETS_EXAMPLE);
+    thinned.script(&Script::of(&before, stations::LAST), STATIONS);
+    thinned.example(NOISE_EXAMPLE);
+    thinned.example(STATION_EXAMPLE);
+    thinned.script(&packets(), PACKETS);
+    thinned.script(&Script::of(&media::SECTIONS, media::LAST), MEDIA);
+    thinned.script(&Script::of(&stations::sections(), stations::LAST), STATIONS);
     thinned.text.pop();
     thinned.text
 }
@@ -147,6 +152,24 @@ struct Thinned {
 }
 
 impl Thinned {
+    /// Adds an example as it is.
+    fn example(&mut self, script: &[u8]) {
+        let lines = script
+            .strip_suffix(b"\n")
+            .expect("an example ends with a line end");
+        for line in lines.split(|&byte| byte == b'\n') {
+            self.line(line);
+        }
+        self.give_back();
+    }
+
+    /// Adds a script in sections of about `most` printed bytes.
+    fn script(&mut self, script: &[u8], most: usize) {
+        for section in sections(script) {
+            self.section(&section, most);
+        }
+    }
+
     /// Adds a section that prints about `most` bytes: cases from all over it,
     /// cut short where they are too long.
     fn section(&mut self, section: &Section, most: usize) {
@@ -194,6 +217,7 @@ mod tests {
     use super::*;
     use crate::generate::stations::tests as stations;
     use crate::generate::tests::answers;
+    use crate::run::run;
     use std::collections::BTreeSet;
 
     #[test]
@@ -214,7 +238,76 @@ mod tests {
         assert!(count(&[b"medium"]) >= 5_000);
         assert!(count(&[b"settings", b"end"]) >= 10_000);
         let printed: usize = answers.iter().map(|(_, answer)| answer.len() + 1).sum();
-        assert!(printed < 1_000_000, "{printed}");
+        assert!(printed < 1_020_000, "{printed}");
+    }
+
+    #[test]
+    fn the_examples_are_run_and_print_what_they_should() {
+        let script = workbench();
+        assert!(script.starts_with(PACKETS_EXAMPLE));
+        let mut output = Vec::new();
+        run(&script[..], &mut output).unwrap();
+        let occurs =
+            |text: &[u8], part: &[u8]| text.windows(part.len()).any(|window| window == part);
+        for (example, answers) in [
+            (
+                PACKETS_EXAMPLE,
+                &include_bytes!("../../../examples/packets.out")[..],
+            ),
+            (NOISE_EXAMPLE, include_bytes!("../../../examples/noise.out")),
+            (
+                STATION_EXAMPLE,
+                include_bytes!("../../../examples/station.out"),
+            ),
+        ] {
+            assert!(occurs(&script, example));
+            assert!(occurs(&output, answers));
+        }
+    }
+
+    #[test]
+    fn settings_and_ends_have_ten_thousand_lines_without_an_error() {
+        let carried_out = |(line, answer): &&(Vec<u8>, String)| {
+            let first = line
+                .split(|&byte| byte == b' ')
+                .find(|word| !word.is_empty());
+            !answer.starts_with("error: ") && (first == Some(b"settings") || first == Some(b"end"))
+        };
+        let count = answers(&workbench()).iter().filter(carried_out).count();
+        assert!(count >= 10_000, "{count}");
+    }
+
+    #[test]
+    fn a_message_is_given_up_from_waiting_with_none_behind() {
+        let calls = stations::calls(&workbench());
+        for limit in ["2", "4"] {
+            let given_up = |call: &&stations::Call| {
+                call.call == "timeout"
+                    && call.before("state") == "Waiting"
+                    && call.before("M") == limit
+                    && call.before("attempts") == limit
+                    && call.before("sending") == "1"
+                    && call.answer.ends_with(" outcomes=0,1,0")
+                    && call.after.starts_with("state=Off ")
+            };
+            assert!(calls.iter().any(|call| given_up(&call)), "{limit}");
+        }
+    }
+
+    #[test]
+    fn every_name_is_used_before_it_is_made_or_opened() {
+        let answers = answers(&workbench());
+        for (line, error) in [
+            ("medium m take", "error: no medium of that name is made"),
+            ("medium n take", "error: no medium of that name is made"),
+            ("end a take", "error: no end of that name is open"),
+            ("end b take", "error: no end of that name is open"),
+        ] {
+            let told = |(command, answer): &(Vec<u8>, String)| {
+                command == line.as_bytes() && answer == error
+            };
+            assert!(answers.iter().any(told), "{line}");
+        }
     }
 
     #[test]

@@ -4,12 +4,13 @@ use super::{stages, told, Frame, Script, Seat, Stage, NAMES, STATES};
 use crate::generate::words;
 use crate::packet::{Kind, LONGEST};
 
-pub const SECTIONS: [fn(&mut Script); 9] = [
+pub const SECTIONS: [fn(&mut Script); 10] = [
     every_cell,
     cells_in_pairs,
     three_events,
     credits,
     attempts_up_to_255,
+    given_up_from_waiting,
     send_buffers,
     outcomes,
     submissions,
@@ -186,6 +187,30 @@ fn attempts_up_to_255(script: &mut Script) {
             _ => script.hear_ack(seat, attempts as u8 % 2),
         };
         script.submit_some(seat.name);
+    }
+}
+
+fn given_up_from_waiting(script: &mut Script) {
+    for limit in [1, 2, 3, 4, 20] {
+        script.section(&format!(
+            "a limit of {limit} is reached while Waiting, none behind: by another ACK and by RESET"
+        ));
+        for (number, again) in [(0, "another ACK"), (1, "RESET")] {
+            let seat = Seat::turn(usize::from(limit + number));
+            let stage = Stage {
+                state: "Waiting",
+                number,
+                behind: 0,
+            };
+            script.reach(seat, Frame::limits(limit, 8), stage);
+            while told(&script.answer, "state") != "Off" {
+                script.happen(seat, "timeout");
+                if told(&script.answer, "state") == "Asking" {
+                    script.happen(seat, again);
+                }
+            }
+            script.call(seat.name, "collect");
+        }
     }
 }
 
