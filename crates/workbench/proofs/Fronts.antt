@@ -114,17 +114,18 @@ taken-none script line rest new left k after empty end =
     no_bytes [] e = refl
     no_bytes (x ∷ xs) e = absurd (omega arith)
 
+-- the rest was passed over, whether there was a line or not
 pub taken-if_there : (e : TooLong) (is_there : Bool) (script line rest new : List ℕ) (left : Option (List ℕ)) → Kept script line rest → left ≡ Some (drop_through 10 rest)
     → (is_there ≡ true → 0 < length line + length rest) → (is_there ≡ false → (length line ≡ 0) × (rest ≡ [])) → Taken script (then_some is_there (Err e)) new left
 taken-if_there e true script line rest new left k after some none = taken-passed e script line rest new left k after (some refl)
 taken-if_there e false script line rest new left k after some none = taken-none script line rest new left k after (none refl).0 (none refl).1
 
+-- what is not empty has a byte
 pub some-of_filled : (empty : Bool) (n : ℕ) → empty ≡ eqb n 0 → not empty ≡ true → 0 < n
 some-of_filled empty zero e h = absurd (true≢false (sym (sym (ap not e) ∙ h)))
 some-of_filled empty (suc n) e h = omega arith
 
--- ---- a search for an end
-
+-- no end was found
 pub endless-of_search : (xs : List ℕ) → list_any (λ b. eqb b 10) xs ≡ false → Endless xs
 endless-of_search [] h = All-nil (λ b. b ≢ 10)
 endless-of_search (x ∷ xs) h = All-cons (λ b. b ≢ 10) x xs (λ e. true≢false (sym (ap (λ t. t || list_any (λ b. eqb b 10) xs) (eq-eqb x 10 e)) ∙ h)) (endless-of_search xs (right (eqb x 10) _ h))
