@@ -50,7 +50,8 @@ take_balance : (b : Bool) (x : End) (s : Option Slip) (n : ℕ) → bars_taking 
 take_balance true x s n h = inl (refl, refl)
 take_balance false x s n h = rules_balance (ltb n 96) x.secondary.out (eqb (length x.secondary.held) 0) x.secondary s refl h
 
-fits : (l b line oldest : ℕ) (out : Bool) → eqb l line && (out && eqb b oldest) ≡ true → cond {A = Option Slip} out (Some (line, oldest)) None ≡ Some (l, b)
+-- a slip fits just the delivery that is out
+pub fits : (l b line oldest : ℕ) (out : Bool) → eqb l line && (out && eqb b oldest) ≡ true → cond {A = Option Slip} out (Some (line, oldest)) None ≡ Some (l, b)
 fits l b line oldest true h =
     let e : line ≡ l = grind (arith, nat_tests) in
     let f : oldest ≡ b = grind (arith, nat_tests) in

@@ -1,6 +1,7 @@
 mod Balance
 mod Closings
 mod Fairness
+mod Givings
 mod Lent
 mod Placed
 mod Takings

@@ -1,8 +1,9 @@
 // The start and the end of a script.
-ghost use Rattle.std.specs.Prelude.{◌≡◌, None};
+ghost use Rattle.std.specs.Prelude.{◌≡◌, Some, None};
 ghost use Rattle.station.specs.Models.{model as end_model};
 ghost use Rattle.end_bench.specs.Bench.{empty};
-ghost use Rattle.end_bench.specs.Closing.{GivenBack, Fits, GivenToOne};
+ghost use Rattle.end_bench.specs.Calls.{given};
+ghost use Rattle.end_bench.specs.Closing.{closed, GivenBack, given_to, Fits, GivenToOne};
 ghost use Rattle.end_bench.specs.Fair.{numbers, kept, lent_by, lent};
 ghost use Rattle.end_bench.specs.Models.{model};
 ghost use Rattle.end_bench.specs.Named.{open_end};
@@ -26,9 +27,11 @@ impl Ends {
         }
     }
 
-    // Gives every slip that is kept back: the ends have no delivery out then.
+    // Gives every slip that is kept back, to the end that it fits: the ends have no delivery out then.
     pub fn close(self) -> (Option<OpenEnd>, Option<OpenEnd>)
-        ensures { (lent (open_end result.0) ≡ None) × (lent (open_end result.1) ≡ None) }
+        ensures a { open_end result.0 ≡ closed (model self).a }
+        ensures b { open_end result.1 ≡ closed (model self).b }
+        ensures none_out { (lent (open_end result.0) ≡ None) × (lent (open_end result.1) ≡ None) }
     {
         let Ends {
             mut a,
@@ -43,9 +46,10 @@ impl Ends {
 }
 
 // Gives a slip back to the one of two ends that it fits.
+#[tactic(auto, using(crate::proofs::Givings::none_given, crate::proofs::Givings::first_given))]
 fn give_to_one(a: &mut Option<OpenEnd>, b: &mut Option<OpenEnd>, slip: Option<DeliverySlip>)
-    requires { Fits (kept slip) (lent (open_end a.old)) (lent (open_end b.old)) }
-    ensures { GivenToOne (kept slip) (lent (open_end a.old)) (lent (open_end b.old)) (lent (open_end a.new)) (lent (open_end b.new)) }
+    requires { Fits (kept slip) (open_end a.old) (open_end b.old) }
+    ensures { GivenToOne (kept slip) (open_end a.old) (open_end b.old) (open_end a.new) (open_end b.new) }
 {
     let Some(slip) = slip else {
         return;
@@ -57,7 +61,8 @@ fn give_to_one(a: &mut Option<OpenEnd>, b: &mut Option<OpenEnd>, slip: Option<De
 
 // Gives a slip back, or hands it back.
 fn give_back(end: &mut Option<OpenEnd>, slip: DeliverySlip) -> Result<(), DeliverySlip>
-    ensures { GivenBack result (numbers slip) (lent (open_end end.old)) (lent (open_end end.new)) }
+    ensures fits { GivenBack result (numbers slip) (lent (open_end end.old)) }
+    ensures after { open_end end.new ≡ given_to (numbers slip) (open_end end.old) }
 {
     match end {
         None => Err(slip),
@@ -67,7 +72,8 @@ fn give_back(end: &mut Option<OpenEnd>, slip: DeliverySlip) -> Result<(), Delive
 }
 
 fn give_back_to<K: Check>(end: &mut End<K>, slip: DeliverySlip) -> Result<(), DeliverySlip>
-    ensures { GivenBack result (numbers slip) (lent_by (end_model end.old).secondary) (lent_by (end_model end.new).secondary) }
+    ensures fits { GivenBack result (numbers slip) (lent_by (end_model end.old).secondary) }
+    ensures after { end_model end.new ≡ given (Some (numbers slip)) (end_model end.old) }
 {
     end.give_back(slip).map_err(|(_, slip)| slip)
 }

@@ -1,20 +1,33 @@
-use Rattle.end_bench.specs.Fair.{kept, lent}
+use Rattle.std.proofs.Common.{rules}
+use Rattle.end_bench.specs.Fair.{kept}
 use Rattle.end_bench.specs.Named.{open_end}
-use Rattle.end_bench.proofs.Closings.{first_fits, second_fits, none_out}
-use Rattle.end_bench.proofs.Fairness.{is_fair}
+use Rattle.end_bench.proofs.Closings.{one_fits, other_fits, a_closed, b_closed, none_out}
 use Rattle.end_bench.proofs.ends.Ends.close.Goals as goal
 
 pub give_to_one-requires : goal.give_to_one-requires
 give_to_one-requires c =
     let w = c.args.self in
-    first_fits (kept w.a_slip) (kept w.b_slip) _ _ (is_fair (kept w.a_slip) (kept w.b_slip) (lent (open_end w.a)) (lent (open_end w.b)) w.fair)
+    one_fits (kept w.a_slip) (kept w.b_slip) (open_end w.a) (open_end w.b) w.fair
 
 pub give_to_one-requires-2 : goal.give_to_one-requires-2
 give_to_one-requires-2 c =
     let w = c.args.self in
-    second_fits (kept w.a_slip) (kept w.b_slip) _ _ _ _ (is_fair (kept w.a_slip) (kept w.b_slip) (lent (open_end w.a)) (lent (open_end w.b)) w.fair) c.give_to_one.ensures
+    other_fits (kept w.a_slip) (kept w.b_slip) (open_end w.a) (open_end w.b) w.fair _ _ c.give_to_one.ensures
 
-pub returns : goal.returns
-returns c =
+pub returns-clause-a : goal.returns-clause-a
+returns-clause-a c =
     let w = c.args.self in
-    none_out (kept w.a_slip) (kept w.b_slip) _ _ _ _ _ _ (is_fair (kept w.a_slip) (kept w.b_slip) (lent (open_end w.a)) (lent (open_end w.b)) w.fair) c.give_to_one.ensures c.give_to_one-2.ensures
+    let done = a_closed (kept w.a_slip) (kept w.b_slip) (open_end w.a) (open_end w.b) _ _ _ _ w.fair c.give_to_one.ensures c.give_to_one-2.ensures in
+    search rules
+
+pub returns-clause-b : goal.returns-clause-b
+returns-clause-b c =
+    let w = c.args.self in
+    let done = b_closed (kept w.a_slip) (kept w.b_slip) (open_end w.a) (open_end w.b) _ _ _ _ w.fair c.give_to_one.ensures c.give_to_one-2.ensures in
+    search rules
+
+pub returns-clause-none_out : goal.returns-clause-none_out
+returns-clause-none_out c =
+    let w = c.args.self in
+    let done = none_out (kept w.a_slip) (kept w.b_slip) (open_end w.a) (open_end w.b) _ _ _ _ w.fair c.give_to_one.ensures c.give_to_one-2.ensures in
+    search rules
