@@ -77,6 +77,7 @@ impl<K: Check> End<K> {
     }
 
     // The primary station hears something.
+    #[tactic(auto, using(crate::proofs::Same::primary_alone))]
     fn hear(&mut self, event: Event<'_>, place: &mut [u8; 104]) -> Result<Report, Refusal>
         ensures value { answer told result ≡ seen (telling K.Check.meaning) (hears (model self.old) (heard event.entry)) }
         ensures after { model self.new ≡ left_by (hears (model self.old) (heard event.entry)) (model self.old) }
@@ -141,6 +142,7 @@ impl<K: Check> End<K> {
     }
 
     // DATA arrived.
+    #[tactic(auto, using(crate::proofs::Same::secondary_alone))]
     fn hear_data(
         &mut self,
         number: Number,

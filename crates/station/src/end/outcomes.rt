@@ -17,6 +17,7 @@ use secondary::station::DeliverySlip;
 
 impl<K: Check> End<K> {
     // Tells the oldest outcome that was not collected and frees its buffer, which then keeps no message, or refuses with 20.
+    #[tactic(auto, using(crate::proofs::Same::primary_alone))]
     pub fn collect(&mut self) -> Result<Outcome, Refusal>
         ensures value { answer outcome_number result ≡ oldest (model self.old).primary.outcomes }
         ensures after { model self.new ≡ with_primary (collected (model self.old).primary) (model self.old) }
@@ -26,6 +27,7 @@ impl<K: Check> End<K> {
     }
 
     // Copies the oldest delivery to the front of `place`; its length, and the slip to give it back by. Refused with 21 to 23.
+    #[tactic(auto, using(crate::proofs::Same::secondary_alone))]
     pub fn take(&mut self, place: &mut [u8]) -> Result<(usize, DeliverySlip), Refusal>
         ensures value { answer taken result ≡ take_answer (length place.old) (model self.old).secondary }
         ensures after { model self.new ≡ with_secondary (after_take (length place.old) (model self.old).secondary) (model self.old) }
@@ -37,6 +39,7 @@ impl<K: Check> End<K> {
     }
 
     // Frees the buffer of the slip, or hands a wrong slip back, with 24.
+    #[tactic(auto, using(crate::proofs::Same::secondary_alone))]
     pub fn give_back(&mut self, slip: DeliverySlip) -> Result<(), (Refusal, DeliverySlip)>
         ensures value { given result ≡ give_answer slip.line slip.buffer (model self.old).secondary }
         ensures after { model self.new ≡ with_secondary (after_give slip.line slip.buffer (model self.old).secondary) (model self.old) }

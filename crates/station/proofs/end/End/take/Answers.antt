@@ -1,16 +1,11 @@
-use Rattle.std.proofs.Common.{refl}
-use Rattle.std.proofs.lemmas.Result.{IfOk-weaker, on_err_weaker}
+use Rattle.std.proofs.lemmas.Result.{IfOk-weaker}
 use Rattle.secondary.specs.Laws as deliveries
 use Rattle.secondary.specs.Station as secondary
 use Rattle.station.specs.End.{with_secondary}
 use Rattle.station.specs.Models.{model}
 use Rattle.station.specs.Runs.{StaysOut}
 use Rattle.station.proofs.Orders.{stays_out}
-use Rattle.station.proofs.Same.{same_end}
 use Rattle.station.proofs.end.End.take.Goals as goal
-
-pub returns-clause-unchanged : goal.returns-clause-unchanged
-returns-clause-unchanged g c = on_err_weaker c.take.result (λ h. same_end _ _ refl refl refl h) c.take.ensures.unchanged
 
 pub returns-clause-out : goal.returns-clause-out
 returns-clause-out g c =
