@@ -1,4 +1,6 @@
 // What a call on an end tells.
+ghost use Rattle.std.specs.Prelude.{◌≤◌};
+
 use packet::letter::Letter;
 use packet::number::Number;
 use primary::event::Timer;
@@ -9,6 +11,7 @@ use primary::outcome::Tally;
 pub struct Sent {
     pub letter: Letter,
     pub length: usize,
+    ghost short: { length ≤ 104 },
 }
 
 // The packet sent, the timer started with its period, and how many messages got each outcome.
