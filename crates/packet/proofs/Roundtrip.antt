@@ -40,7 +40,7 @@ rebuilt (x ∷ y ∷ r) n l k h e₀ e₁ e₃ e =
     let whole : r ≡ take n r ++ (3 ∷ k) = sym (take-append-drop n r) ∙ ap (λ (zs : List ℕ). take n r ++ zs) split in
     ap (λ (z : ℕ). z ∷ y ∷ r) e₀ ∙ ap (λ (z : ℕ). 2 ∷ z ∷ r) e₁ ∙ ap (λ (zs : List ℕ). 2 ∷ l ∷ zs) (whole ∙ sym (append_assoc (take n r) (3 ∷ []) k))
 
-letter_same : {k l p q : ℕ} {f g : List ℕ} → parts k p f ≡ parts l q g → k ≡ l
+pub letter_same : {k l p q : ℕ} {f g : List ℕ} → parts k p f ≡ parts l q g → k ≡ l
 letter_same e = cc
 
 field_same : {k l p q : ℕ} {f g : List ℕ} → parts k p f ≡ parts l q g → f ≡ g

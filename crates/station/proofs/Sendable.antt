@@ -13,23 +13,23 @@ use Rattle.primary.specs.Station.{Phase, off, ready, waiting, asking, Station, H
 use Rattle.primary.specs.Table.{cell, hears, rules, step_of, arrives, rests, gives_up, asks, sends_again}
 use Rattle.station.specs.Valid.{valid, all_valid}
 
-abbrev Sendable : Phase → Type 0
+abbrev pub Sendable : Phase → Type 0
 Sendable ph = all_valid (unsettled_in ph) ≡ true
 
 -- a message that is heard can be sent
-abbrev HeardValid : Heard → Type 0
+abbrev pub HeardValid : Heard → Type 0
 HeardValid (submission m) = valid m ≡ true
 HeardValid reset = Unit {0}
 HeardValid (ack n k) = Unit {0}
 HeardValid timeout = Unit {0}
 
-heard_valid : (h : Heard) (s : Station) → Passed (rules h s) → HeardValid h
+pub heard_valid : (h : Heard) (s : Station) → Passed (rules h s) → HeardValid h
 heard_valid (submission m) s p = and_from (between 1 96 (length m)) (each_between 0x20 0x7e m) (not-false _ p.0) (not-false _ p.1.0)
 heard_valid reset s p = tt
 heard_valid (ack n k) s p = tt
 heard_valid timeout s p = tt
 
-joined : (ms : List (List ℕ)) (m : List ℕ) → all_valid ms ≡ true → valid m ≡ true → all_valid (ms ++ m ∷ []) ≡ true
+pub joined : (ms : List (List ℕ)) (m : List ℕ) → all_valid ms ≡ true → valid m ≡ true → all_valid (ms ++ m ∷ []) ≡ true
 joined [] m v w = and_from (valid m) true w refl
 joined (x ∷ ms) m v w = let p = and_parts (valid x) (all_valid ms) v in and_from (valid x) (all_valid (ms ++ m ∷ [])) p.0 (joined ms m p.1 w)
 
@@ -42,7 +42,7 @@ either : (b : Bool) (x y : Did) → Sendable x.next.phase → Sendable y.next.ph
 either true x y p q = p
 either false x y p q = q
 
-cell_valid : (M : ℕ) (s : Station) (ph : Phase) (h : Heard) → s.phase ≡ ph → HeardValid h → Sendable ph → Sendable (cell M s ph h).next.phase
+pub cell_valid : (M : ℕ) (s : Station) (ph : Phase) (h : Heard) → s.phase ≡ ph → HeardValid h → Sendable ph → Sendable (cell M s ph h).next.phase
 cell_valid M s off (submission m) e w v = ap (λ (p : Phase). all_valid (unsettled_in p)) e
 cell_valid M s off reset e w v = refl
 cell_valid M s off (ack n k) e w v = refl
