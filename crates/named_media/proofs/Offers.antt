@@ -68,8 +68,8 @@ noisy_reached m m' b r e t =
       size = same_memory _ _ t.kept;
     }
 
-pub packed_offered : (m m' : MutBor PackedMedium) (p p' : ℕ) (b : List ℕ) (r : Offer) → Passes (λ m b r n. packed.PacksIn m.now b r n.now) m p b r m' p' → Does (a_packed m.now p) (a_packed m'.now p') (length (ring.memory m.now.ring)) (length (ring.memory m'.now.ring)) b r
-packed_offered = layered (λ m b r n. packed.PacksIn m.now b r n.now) (λ m. base.Packed (ring.places m.now.ring)) (λ m. 0) (λ m. packed.carries m.now) (λ m. length (ring.memory m.now.ring)) (λ m m' b r. packed_reached m.now m'.now b r)
+pub packed_offered : (m m' : MutBor PackedMedium) (p p' : ℕ) (b : List ℕ) (r : Offer) → Passes (λ m b r n. packed.PacksIn m.now b r n.now × (n.ghost_name ≡ m.ghost_name)) m p b r m' p' → Does (a_packed m.now p) (a_packed m'.now p') (length (ring.memory m.now.ring)) (length (ring.memory m'.now.ring)) b r
+packed_offered = layered (λ m b r n. packed.PacksIn m.now b r n.now × (n.ghost_name ≡ m.ghost_name)) (λ m. base.Packed (ring.places m.now.ring)) (λ m. 0) (λ m. packed.carries m.now) (λ m. length (ring.memory m.now.ring)) (λ m m' b r e t. packed_reached m.now m'.now b r e t.0)
 
 pub noisy_offered : (m m' : NoisyMedium) (p p' : ℕ) (b : List ℕ) (r : Offer) → Passes Sends m p b r m' p' → Does (a_noisy m p) (a_noisy m' p') (length (queue.memory m.queue)) (length (queue.memory m'.queue)) b r
 noisy_offered = layered Sends (λ m. base.Noisy (queue.places m.queue) m.pattern.bits) (λ m. m.offers) (λ m. queue.queued m.queue) (λ m. length (queue.memory m.queue)) noisy_reached

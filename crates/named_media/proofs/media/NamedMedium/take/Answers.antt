@@ -17,7 +17,7 @@ pub returns-in-Packed-clause-after : goal.returns-in-Packed-clause-after
 returns-in-Packed-clause-after c =
     let n = model c.args.self.now in
     let e = c.take-in-Packed.ensures in
-    let kept = e.exact.0 in
+    let kept = e.exact.0.0 in
     let size = same_memory _ _ kept in
     rw (c.in_ok-self.was, c.in-Packed.is) (λ i. named_by (Some (carrier_of (base.Packed (kept.places i)) (e.exact.1 i).bits 0 (e.after i))) n.for_queue (size i) n.for_noisy)
 
