@@ -147,11 +147,11 @@ fn open_as(
 {
     let (open, report) = match kind {
         Kind::Sum => {
-            let (open, report) = End::new(Sum, line, frame, place)?;
+            let (open, report) = End::<Sum>::new(line, frame, place)?;
             (OpenEnd::Sum(open), report)
         }
         Kind::Xor => {
-            let (open, report) = End::new(Xor, line, frame, place)?;
+            let (open, report) = End::<Xor>::new(line, frame, place)?;
             (OpenEnd::Xor(open), report)
         }
     };

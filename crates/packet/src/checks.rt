@@ -2,8 +2,8 @@
 ghost use Rattle.std.specs.Prelude.{◌≡◌, ℕ, ◌≤◌, List, length, ◌≢◌};
 ghost use Rattle.packet.specs.Checks.{Each, Altered, padded};
 
-// A rule that gives each string of covered bytes its check bytes. A kind can be let go (`Drop`), as an end that holds one can.
-pub trait Check: Drop {
+// A rule that gives each string of covered bytes its check bytes.
+pub trait Check {
     // The number of check bytes.
     const LEN: usize;
 

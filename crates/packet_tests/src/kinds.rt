@@ -12,7 +12,6 @@ use packet::sum::Sum;
 use packet::xor::Xor;
 
 // Two check bytes: that of the sum and that of the exclusive or.
-#[derive(Drop)]
 pub struct Pair;
 
 impl Check for Pair {
@@ -40,7 +39,6 @@ impl Check for Pair {
 }
 
 // Five check bytes: the pair, the pair turned round, and the sum again.
-#[derive(Drop)]
 pub struct Five;
 
 impl Check for Five {

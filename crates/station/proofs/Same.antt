@@ -11,19 +11,19 @@ use Rattle.station.specs.declared.end.End.{End}
 use Rattle.station.specs.Valid.{all_valid}
 
 -- what the ghost fields say has one proof at most
-pub same_end : {K : Type 0} {g : check.Ghosts K} (e e' : End K g) → e'.kind ≡ e.kind → e'.settings ≡ e.settings → e'.primary ≡ e.primary → e'.secondary ≡ e.secondary → e' ≡ e
+pub same_end : {K : Type 0} {g : check.Ghosts K} (e e' : End K g) → e'.of ≡ e.of → e'.settings ≡ e.settings → e'.primary ≡ e.primary → e'.secondary ≡ e.secondary → e' ≡ e
 same_end e e' k s p q =
     λ i. record {
-      kind = k i;
+      of = k i;
       settings = s i;
       primary = p i;
       secondary = q i;
       sendable = is_prop→PathP (λ j. all_valid (unsettled_in (model (p j)).phase) ≡ true) (λ j. Bool-set _ _) e'.sendable e.sendable i;
-      limited = is_prop→PathP (λ j. (s j).attempt_limit ≤ 20) (λ j. le_prop) e'.limited e.limited i;
+      limited = is_prop→PathP (λ j. (s j).attempt_limit ≤ 255) (λ j. le_prop) e'.limited e.limited i;
     }
 
 -- a call on one of the two stations: where it is refused and leaves that station, it leaves the end
-module _ {K A B : Type 0} {g : check.Ghosts K} (r : Result A B) (e e' : End K g) (k : e'.kind ≡ e.kind) (s : e'.settings ≡ e.settings) where
+module _ {K A B : Type 0} {g : check.Ghosts K} (r : Result A B) (e e' : End K g) (k : e'.of ≡ e.of) (s : e'.settings ≡ e.settings) where
   pub primary_alone : e'.secondary ≡ e.secondary → OnErr r (e'.primary ≡ e.primary) → OnErr r (e' ≡ e)
   primary_alone q h = on_err_weaker r (λ p. same_end e e' k s p q) h
 

@@ -140,7 +140,7 @@ module _ (c : ℕ) (check : List ℕ → List ℕ) where
 
   -- enough timeouts are to come
   abbrev Enough : ends.End → ℕ → Type 0
-  Enough e t = (ends.awaiting e.primary.phase ≡ true) × (e.settings.attempt_limit ≤ 20) × (e.settings.attempt_limit < e.primary.attempts + t) × (1 ≤ t)
+  Enough e t = (ends.awaiting e.primary.phase ≡ true) × (e.settings.attempt_limit ≤ 255) × (e.settings.attempt_limit < e.primary.attempts + t) × (1 ≤ t)
 
   still_enough : (e e' : ends.End) (t : ℕ) → Kept e e' → Enough e t → Enough e' t
   still_enough e e' t kept (w, s, h, o) =
@@ -166,5 +166,5 @@ module _ (c : ℕ) (check : List ℕ → List ℕ) where
   timed (Collect ∷ ks) e n = one_more Collect ks e (λ is. timed ks _ (still_enough e _ (timeouts ks) (call_kept Collect e n.0 is) n))
   timed (Set f ∷ ks) e n = one_more (Set f) ks e (λ is. timed ks _ (still_enough e _ (timeouts ks) (call_kept (Set f) e n.0 is) n))
 
-  pub in_time : (e : ends.End) → e.settings.attempt_limit ≤ 20 → InTime c check e
+  pub in_time : (e : ends.End) → e.settings.attempt_limit ≤ 255 → InTime c check e
   in_time e l w ks h = timed ks e (w, l, omega arith, omega arith)

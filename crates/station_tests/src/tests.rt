@@ -50,12 +50,12 @@ fn refuses(rt: &impl Abort, end: &mut End<Sum>, state: State) {
 }
 
 // What an end of this kind sends for "OK" once RESET has arrived: letter and length, if it reads back as that message.
-fn sent_for_ok<K: Check>(kind: K) -> Option<(Letter, usize)> {
+fn sent_for_ok<K: Check>() -> Option<(Letter, usize)> {
     let message: &[u8] = b"OK";
     let mut place = [0u8; 104];
     let mut burst = [0u8; 104];
     let length = write::<K>(b'R', &[], &mut burst).ok()?;
-    let (mut end, _) = End::new(kind, 0, &FRAME, &mut place).ok()?;
+    let (mut end, _) = End::<K>::new(0, &FRAME, &mut place).ok()?;
     end.arrive(burst.get(..length)?, &mut place).ok()?;
     let sent = end.submit(message, &mut place).ok()?.sent?;
     let packet = read::<K>(place.get(..sent.length)?).ok()?;
@@ -66,7 +66,7 @@ fn sent_for_ok<K: Check>(kind: K) -> Option<(Letter, usize)> {
 fn messages_of_1_to_96_bytes_pass(rt: HostRuntime) {
     let mut place = [0u8; 104];
     let text = [0x41u8; 97];
-    let (mut end, _) = End::new(Sum, 0, &FRAME, &mut place).expect(&rt, "FRAME is taken");
+    let (mut end, _) = End::<Sum>::new(0, &FRAME, &mut place).expect(&rt, "FRAME is taken");
     assert_eq!(rt; refused(end.arrive(&RESET, &mut place)), None);
     assert_eq!(rt; refused(end.submit(&text[0..0], &mut place)), Some(16));
     assert_eq!(rt; refused(end.submit(&text, &mut place)), Some(16));
@@ -77,7 +77,7 @@ fn messages_of_1_to_96_bytes_pass(rt: HostRuntime) {
 #[test]
 fn refused_frame_changes_nothing_in_any_state(rt: HostRuntime) {
     let mut place = [0u8; 104];
-    let (mut end, _) = End::new(Sum, 0, &FRAME, &mut place).expect(&rt, "FRAME is taken");
+    let (mut end, _) = End::<Sum>::new(0, &FRAME, &mut place).expect(&rt, "FRAME is taken");
     refuses(&rt, &mut end, State::Off);
     assert_eq!(rt; refused(end.arrive(&RESET, &mut place)), None);
     refuses(&rt, &mut end, State::Ready);
@@ -90,6 +90,6 @@ fn refused_frame_changes_nothing_in_any_state(rt: HostRuntime) {
 #[test]
 fn a_users_kinds_serve_an_end(rt: HostRuntime) {
     let data_0 = Letter::Data(Number::Zero);
-    assert_eq!(rt; sent_for_ok(Pair), Some((data_0, 7)));
-    assert_eq!(rt; sent_for_ok(Five), Some((data_0, 10)));
+    assert_eq!(rt; sent_for_ok::<Pair>(), Some((data_0, 7)));
+    assert_eq!(rt; sent_for_ok::<Five>(), Some((data_0, 10)));
 }

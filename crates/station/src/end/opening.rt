@@ -2,7 +2,7 @@
 ghost use Rattle.std.specs.Prelude.{◌≡◌, IfOk, OnErr};
 ghost use Rattle.packet.specs.Refusals.{answer};
 ghost use Rattle.settings.specs.Frame.{told as set_told};
-ghost use Rattle.station.specs.End.{opening_of, change, set_by, placed_by, seen, awaiting};
+ghost use Rattle.station.specs.End.{opened, opening_of, change, set_by, burst, written_over, placed_by, seen, awaiting};
 ghost use Rattle.station.specs.Models.{model};
 ghost use Rattle.station.specs.Reports.{told, telling};
 ghost use Rattle.station.specs.Runs.{LeaveInOrder};
@@ -15,12 +15,30 @@ use primary::event::Step;
 use primary::station::{Primary, State};
 use secondary::station::Secondary;
 use settings::settings::parse;
+use settings::values::Settings;
+use std::marker::PhantomData;
 
 impl<K: Check> End<K> {
-    // Opens an end on the line of this number: ENQ is sent. Refused with 8 to 13 by the settings frame.
+    // Opens an end on the line of this number, with the settings as they are: ENQ is sent.
     #[tactic(auto, using(crate::proofs::Orders::in_order))]
+    pub fn open(line: u8, settings: Settings, place: &mut [u8; 104]) -> (End<K>, Report)
+        ensures value { told result.1 ≡ telling K.Check.meaning (opened line settings) }
+        ensures made { model result.0 ≡ (opened line settings).next }
+        ensures in_order { LeaveInOrder K.Check.LEN K.Check.meaning (model result.0) }
+        ensures placed { place.new ≡ written_over (burst K.Check.meaning (opened line settings).sent) place.old }
+    {
+        let end = End {
+            of: PhantomData,
+            settings,
+            primary: Primary::open(),
+            secondary: Secondary::new(line),
+        };
+        let report = end.command(Step::enq(), place);
+        (end, report)
+    }
+
+    // Opens an end with the settings in a frame, which can be refused with 8 to 13.
     pub fn new(
-        kind: K,
         line: u8,
         frame: &[u8],
         place: &mut [u8; 104],
@@ -31,14 +49,7 @@ impl<K: Check> End<K> {
         ensures placed { place.new ≡ placed_by K.Check.meaning (opening_of line frame.now) place.old }
     {
         let settings = parse(frame)?;
-        let end = End {
-            kind,
-            settings,
-            primary: Primary::open(),
-            secondary: Secondary::new(line),
-        };
-        let report = end.command(Step::enq(), place);
-        Ok((end, report))
+        Ok(End::open(line, settings, place))
     }
 
     // Whether the primary station waits for an answer.

@@ -1,4 +1,4 @@
-use Rattle.std.proofs.Common.{◌≡◌, ◌≤◌, IfOk, IfErr, Ok, Err, Result, sym, refl, subst}
+use Rattle.std.proofs.Common.{◌≡◌, ◌≤◌, IfOk, IfErr, Ok, Err, Result, sym, refl, subst, arith}
 use Rattle.std.proofs.lemmas.Result.{on_err_weaker}
 use Rattle.packet.specs.declared.refusal.Refusal.{Refusal}
 use Rattle.packet.specs.Refusals.{Answer, refused, gave}
@@ -15,9 +15,9 @@ set_is (refused n) e = refl
 set_is (gave t) e = refl
 
 -- a frame that is taken has an attempt limit in range
-still_limited : (r : Result (Unit {0}) Refusal) (s s' : Settings) → s.attempt_limit ≤ 20 → IfOk r (λ _. InRange s') → IfErr r (λ _. s' ≡ s) → s'.attempt_limit ≤ 20
-still_limited (Ok x) s s' l taken kept = taken.attempts_high
-still_limited (Err x) s s' l taken kept = subst (λ (t : Settings). t.attempt_limit ≤ 20) (sym kept) l
+still_limited : (r : Result (Unit {0}) Refusal) (s s' : Settings) → s.attempt_limit ≤ 255 → IfOk r (λ _. InRange s') → IfErr r (λ _. s' ≡ s) → s'.attempt_limit ≤ 255
+still_limited (Ok x) s s' l taken kept = omega (arith, taken.attempts_high)
+still_limited (Err x) s s' l taken kept = subst (λ (t : Settings). t.attempt_limit ≤ 255) (sym kept) l
 
 pub invariant_of-self : goal.invariant_of-self
 invariant_of-self g c =
