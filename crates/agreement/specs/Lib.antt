@@ -1,0 +1,9 @@
+pub mod Line
+pub mod Calls
+pub mod Opening
+pub mod Transcript
+pub mod Stored
+pub mod InTime
+pub mod Promise
+pub mod Theorem
+pub mod Worked
