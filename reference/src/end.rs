@@ -55,7 +55,7 @@ pub struct Slip {
 }
 
 /// An end.
-#[derive(Debug)]
+#[derive(Clone, Debug)]
 pub struct End {
     line: u8,
     kind: Kind,

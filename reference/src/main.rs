@@ -1,10 +1,14 @@
 //! A second, independent implementation of the protocol and its workbench,
 //! written from docs/PROTOCOL.md and docs/WORKBENCH.md alone.
 
+mod cells;
 mod end;
 mod generate;
+mod line;
 mod medium;
+mod monitor;
 mod packet;
+mod play;
 mod random;
 mod refusal;
 mod run;
@@ -19,7 +23,8 @@ const USAGE: &str = "usage: reference run
        reference generate packets
        reference generate media
        reference generate stations
-       reference generate workbench";
+       reference generate workbench
+       reference monitor SECONDS [SEED]";
 
 fn main() -> ExitCode {
     let arguments: Vec<_> = env::args_os().skip(1).collect();
@@ -31,6 +36,8 @@ fn main() -> ExitCode {
         [Some("generate"), Some("media")] => output.write_all(&generate::media()),
         [Some("generate"), Some("stations")] => output.write_all(&generate::stations()),
         [Some("generate"), Some("workbench")] => output.write_all(&generate::workbench()),
+        [Some("monitor"), Some(seconds)] => watch(seconds, "0", &mut output),
+        [Some("monitor"), Some(seconds), Some(seed)] => watch(seconds, seed, &mut output),
         _ => {
             eprintln!("{USAGE}");
             return ExitCode::from(2);
@@ -43,4 +50,14 @@ fn main() -> ExitCode {
             ExitCode::FAILURE
         }
     }
+}
+
+/// Runs the monitor; a promise that fails is an error.
+fn watch(seconds: &str, seed: &str, output: &mut impl Write) -> io::Result<()> {
+    let number = |word: &str| word.parse().map_err(io::Error::other);
+    if monitor::monitor(number(seconds)?, number(seed)?, output)? {
+        return Ok(());
+    }
+    output.flush()?;
+    Err(io::Error::other("the line broke a promise"))
 }

@@ -6,6 +6,7 @@
 pub mod command;
 
 use std::collections::VecDeque;
+use std::fmt;
 
 /// The longest burst that a medium carries, and the size of a place for one.
 pub const LONGEST: usize = 104;
@@ -29,7 +30,7 @@ pub struct Spec {
 }
 
 /// A pattern and the number of offers at which it was looked at.
-#[derive(Debug)]
+#[derive(Clone, Debug)]
 struct Pattern {
     bits: u32,
     offers: u32,
@@ -58,8 +59,17 @@ pub enum Offer {
     Spoilt,
 }
 
+impl fmt::Display for Offer {
+    fn fmt(&self, out: &mut fmt::Formatter) -> fmt::Result {
+        out.write_str(match self {
+            Offer::Whole => "whole",
+            Offer::Spoilt => "spoilt",
+        })
+    }
+}
+
 /// A medium.
-#[derive(Debug)]
+#[derive(Clone, Debug)]
 pub struct Medium {
     room: Room,
     noise: Option<Pattern>,
@@ -116,6 +126,11 @@ impl Medium {
 
     pub fn count(&self) -> usize {
         self.list.len()
+    }
+
+    /// The oldest burst.
+    pub fn first(&self) -> Option<&[u8]> {
+        self.list.front().map(Vec::as_slice)
     }
 
     pub fn holds_commands(&self) -> bool {

@@ -4,10 +4,18 @@ pub struct Random {
     state: u64,
 }
 
+const START: u64 = 0x9E37_79B9_7F4A_7C15;
+
 impl Random {
     pub fn new() -> Self {
-        Random {
-            state: 0x9E37_79B9_7F4A_7C15,
+        Random { state: START }
+    }
+
+    /// Another sequence for each seed; 0 gives that of `new`.
+    pub fn seeded(seed: u64) -> Self {
+        match START ^ seed.wrapping_mul(0x2545_F491_4F6C_DD1D) {
+            0 => Random::new(),
+            state => Random { state },
         }
     }
 

@@ -27,6 +27,10 @@ pub enum Refusal {
     StillOut = 22,
     NoDelivery = 23,
     Slip = 24,
+    Side = 25,
+    NothingUnderWay = 26,
+    StillUnderWay = 27,
+    MediumInUse = 28,
     Room = 29,
 }
 

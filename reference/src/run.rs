@@ -1,6 +1,8 @@
 //! Runs a script: one answer for each command line.
 
 use crate::end::command::{end, Ends};
+use crate::line::command::line;
+use crate::line::Line;
 use crate::medium::command::{medium, Media};
 use crate::packet::command::packet;
 use crate::script::{Error, Lines, Stop, Words};
@@ -20,6 +22,7 @@ pub fn run(input: impl BufRead, output: impl Write) -> io::Result<()> {
 pub struct Bench {
     ends: Ends,
     media: Media,
+    line: Option<Line>,
 }
 
 impl Bench {
@@ -46,13 +49,14 @@ impl Bench {
     }
 
     /// Carries out one line and prints its answer.
-    fn command(&mut self, line: &[u8], output: &mut impl Write) -> Result<(), Stop> {
-        let mut words = Words::new(line);
+    fn command(&mut self, text: &[u8], output: &mut impl Write) -> Result<(), Stop> {
+        let mut words = Words::new(text);
         match words.due()? {
             b"packet" => packet(&mut words, output),
             b"settings" => settings(&mut words, output),
             b"end" => end(&mut self.ends, &mut words, output),
             b"medium" => medium(&mut self.media, &mut words, output),
+            b"line" => line(&mut self.line, &mut words, output),
             _ => Err(Error::UnknownCommand.into()),
         }
     }
@@ -360,6 +364,87 @@ mod tests {
             ("end a settings", "error: too few words"),
             ("end a settings -", no_end),
             ("end a state x", "error: too many words"),
+        ]);
+    }
+
+    #[test]
+    fn a_line_carries_a_message() {
+        let frame = "01000600C8012C0308";
+        let enq = "sent=E burst=024503C8 offer=whole timer=enq:200 outcomes=0,0,0";
+        let reset = "sent=R burst=025203D5 offer=whole timer=none outcomes=0,0,0";
+        let nothing = "sent=none burst=- offer=none timer=none outcomes=0,0,0";
+        let open = format!("line open sum {frame} {frame} queue:2 lossy:0/packed:40");
+        session(&[
+            ("line state west", "error: no line is open"),
+            (&open, &format!("opened west {enq} east {enq}")),
+            ("line arrive 1", reset),
+            ("line arrive west", reset),
+            ("line timeout west", "refused 27"),
+            ("line arrive west", nothing),
+            ("line arrive east", nothing),
+            ("line arrive east", "refused 26"),
+            (
+                "line submit west 'OK",
+                "sent=0 burst=02304F4B03CD offer=whole timer=data:300 outcomes=0,0,0",
+            ),
+            (
+                "line arrive east",
+                "sent=A burst=02413703FB offer=whole timer=none outcomes=0,0,0",
+            ),
+            (
+                "line arrive west",
+                "sent=none burst=- offer=none timer=none outcomes=1,0,0",
+            ),
+            ("line collect west", "outcome=1"),
+            ("line collect west", "refused 20"),
+            ("line read east 95", "refused 21"),
+            ("line read east", "length=2 message=4F4B"),
+            ("line read east", "refused 23"),
+            ("line settings west 01000600C8012C0309", "refused 13"),
+            ("line settings west 01000600C8012C0108", "set"),
+            (
+                "line state 0",
+                "state=Ready number=0 attempts=0 credit=7 enq=200 data=300 M=1 R=8 last=R held=0 \
+                 out=none sending=0 outcomes=0",
+            ),
+            ("line read 2 7", "refused 25"),
+            (
+                "line open sum x",
+                "error: BYTES are pairs of hexadecimal digits",
+            ),
+            ("line collect west", "refused 20"),
+            (&open.replace("0308 0100", "0308 0200"), "refused 9"),
+            ("line collect 2", "error: no line is open"),
+        ]);
+    }
+
+    #[test]
+    fn the_first_wrong_word_after_line_decides() {
+        let side = "error: a side is west, east or a number from 0 to 255";
+        let bytes = "error: BYTES are pairs of hexadecimal digits";
+        session(&[
+            ("line", "error: too few words"),
+            ("line west", "error: unknown command"),
+            ("line open", "error: too few words"),
+            ("line open crc -", "error: KIND is sum or xor"),
+            ("line open sum 'OK - queue:1 queue:1", bytes),
+            ("line open sum - - queue:1", "error: too few words"),
+            (
+                "line open sum - - queue:1 queue:1 x",
+                "error: too many words",
+            ),
+            ("line open sum - - queue:1 queue:1", "refused 8"),
+            ("line submit", "error: too few words"),
+            ("line submit North x", side),
+            ("line submit 256", side),
+            ("line submit 255", "error: too few words"),
+            ("line submit west 0 x", bytes),
+            ("line read west x x", "error: SIZE is a decimal number"),
+            ("line read west 96 x", "error: too many words"),
+            ("line timeout west x", "error: too many words"),
+            ("line timeout 2", "error: no line is open"),
+            ("line state", "error: too few words"),
+            ("line state east x", "error: too many words"),
         ]);
     }
 }

@@ -25,6 +25,8 @@ pub enum Error {
     NoSlip,
     SlipKept,
     NoMedium,
+    Side,
+    NoLine,
     OutOfMemory,
 }
 
@@ -49,6 +51,8 @@ impl fmt::Display for Error {
             Error::NoSlip => "no slip is kept",
             Error::SlipKept => "a slip is kept",
             Error::NoMedium => "no medium of that name is made",
+            Error::Side => "a side is west, east or a number from 0 to 255",
+            Error::NoLine => "no line is open",
             Error::OutOfMemory => "out of memory",
         })
     }
@@ -200,6 +204,11 @@ impl<'a> Words<'a> {
         }
     }
 
+    /// BYTES that another argument follows: always hexadecimal.
+    pub fn bytes(&mut self) -> Result<Vec<u8>, Error> {
+        bytes(self.due()?)
+    }
+
     /// BYTES as a last argument: text after an apostrophe takes the whole line.
     pub fn last_bytes(&mut self) -> Result<Cow<'a, [u8]>, Error> {
         if let Some(text) = self.rest.strip_prefix(b"'") {
@@ -227,8 +236,16 @@ impl<'a> Words<'a> {
 
     /// LINE.
     pub fn line(&mut self) -> Result<u8, Error> {
-        let line = number(self.due()?, 255).and_then(|line| u8::try_from(line).ok());
-        line.ok_or(Error::Line)
+        byte(self.due()?).ok_or(Error::Line)
+    }
+
+    /// SIDE, as its number.
+    pub fn side(&mut self) -> Result<u8, Error> {
+        match self.due()? {
+            b"west" => Ok(0),
+            b"east" => Ok(1),
+            word => byte(word).ok_or(Error::Side),
+        }
     }
 
     /// The NAME of a medium, as a number from 0.
@@ -288,6 +305,11 @@ fn end_name(word: &[u8]) -> Result<usize, Error> {
 /// One or more decimal digits, of a number from 0 to `most`.
 fn number(word: &[u8], most: usize) -> Option<usize> {
     number_up_to(word, most + 1).filter(|&number| number <= most)
+}
+
+/// One or more decimal digits, of a number from 0 to 255.
+fn byte(word: &[u8]) -> Option<u8> {
+    number(word, 255).and_then(|number| u8::try_from(number).ok())
 }
 
 /// One or more decimal digits: their number, or `most` where it is larger.
@@ -482,6 +504,24 @@ mod tests {
             assert_eq!(Words::new(wrong).line(), Err(Error::Line));
         }
         assert_eq!(Words::new(b"").line(), Err(Error::TooFewWords));
+    }
+
+    #[test]
+    fn a_side_has_a_name_or_a_number() {
+        let sides: [(&[u8], u8); 5] = [
+            (b"west", 0),
+            (b"east", 1),
+            (b"1", 1),
+            (b"002", 2),
+            (b"255", 255),
+        ];
+        for (word, side) in sides {
+            assert_eq!(Words::new(word).side(), Ok(side));
+        }
+        for wrong in [&b"West"[..], b"wes", b"eastt", b"256", b"-1", b"'west"] {
+            assert_eq!(Words::new(wrong).side(), Err(Error::Side));
+        }
+        assert_eq!(Words::new(b"").side(), Err(Error::TooFewWords));
     }
 
     #[test]

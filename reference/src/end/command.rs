@@ -215,17 +215,36 @@ struct Told<'a>(Report, &'a [u8; PLACE]);
 impl fmt::Display for Told<'_> {
     fn fmt(&self, out: &mut fmt::Formatter) -> fmt::Result {
         let Told(report, place) = self;
+        write!(out, "{} {}", Sent(report, place), Rest(report))
+    }
+}
+
+/// The front of REPORT: the packet that was sent.
+pub struct Sent<'a>(pub &'a Report, pub &'a [u8; PLACE]);
+
+impl fmt::Display for Sent<'_> {
+    fn fmt(&self, out: &mut fmt::Formatter) -> fmt::Result {
+        let Sent(report, place) = self;
         match report.sent {
             Some((letter, length)) => {
                 let burst = Hexadecimal(&place[..length]);
-                write!(out, "sent={} burst={burst}", char::from(letter))?;
+                write!(out, "sent={} burst={burst}", char::from(letter))
             }
-            None => write!(out, "sent=none burst=-")?,
+            None => write!(out, "sent=none burst=-"),
         }
+    }
+}
+
+/// The rest of REPORT: timer and outcomes.
+pub struct Rest<'a>(pub &'a Report);
+
+impl fmt::Display for Rest<'_> {
+    fn fmt(&self, out: &mut fmt::Formatter) -> fmt::Result {
+        let Rest(report) = self;
         match report.timer {
-            Some(Timer::Enq(period)) => write!(out, " timer=enq:{period}")?,
-            Some(Timer::Data(period)) => write!(out, " timer=data:{period}")?,
-            None => write!(out, " timer=none")?,
+            Some(Timer::Enq(period)) => write!(out, "timer=enq:{period}")?,
+            Some(Timer::Data(period)) => write!(out, "timer=data:{period}")?,
+            None => write!(out, "timer=none")?,
         }
         let [arrived, given_up, no_connection] = report.outcomes;
         write!(out, " outcomes={arrived},{given_up},{no_connection}")

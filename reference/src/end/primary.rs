@@ -28,14 +28,14 @@ pub enum Answer {
 }
 
 /// A message in a send buffer.
-#[derive(Debug)]
+#[derive(Clone, Debug)]
 struct Message {
     bytes: Vec<u8>,
     outcome: Option<Outcome>,
 }
 
 /// A primary station.
-#[derive(Debug)]
+#[derive(Clone, Debug)]
 pub struct Primary {
     /// The other side was heard since the opening or since a message was given up.
     joined: bool,

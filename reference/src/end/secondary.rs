@@ -18,7 +18,7 @@ pub enum Command<'a> {
 }
 
 /// A secondary station.
-#[derive(Debug, Default)]
+#[derive(Clone, Debug, Default)]
 pub struct Secondary {
     /// The number that was stored last.
     last: Option<u8>,

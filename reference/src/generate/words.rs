@@ -11,7 +11,7 @@ pub const FIRST: &str = "\
     x Packet PACKET packeT packe packets packet. packet, packetread packet-read acket \
     read write sum 024503C8 - ' 'packet \"packet\" packet' packet# // \\ \t \r \0 \
     \tpacket packet\t packet\r \rpacket packet\0 \0packet pac\0ket \u{feff}packet \
-    p\u{e4}cket help exit media station line refused error: packet\tread \
+    p\u{e4}cket help exit media station lines refused error: packet\tread \
     packet\u{a0}read";
 
 /// Words that are no second word of a command.

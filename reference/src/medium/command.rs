@@ -1,6 +1,6 @@
 //! The workbench's medium commands (WORKBENCH.md, "Media").
 
-use super::{Medium, Offer, LONGEST};
+use super::{Medium, LONGEST};
 use crate::script::{Error, Hexadecimal, Stop, Words};
 use std::io::Write;
 
@@ -45,10 +45,7 @@ fn offer(
     let burst = words.last_bytes()?;
     words.end()?;
 
-    let answer = match made(medium)?.offer(&burst) {
-        Offer::Whole => "whole",
-        Offer::Spoilt => "spoilt",
-    };
+    let answer = made(medium)?.offer(&burst);
     writeln!(output, "{answer}")?;
     Ok(())
 }
