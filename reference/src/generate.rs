@@ -1,5 +1,6 @@
 //! Generated scripts. The same bytes come out on every run and every machine.
 
+mod line;
 mod media;
 mod packets;
 mod stations;
@@ -10,6 +11,7 @@ use crate::packet::{assemble, Kind};
 use crate::random::Random;
 use crate::run::Bench;
 
+pub use line::line;
 pub use media::media;
 pub use packets::packets;
 pub use stations::stations;

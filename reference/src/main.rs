@@ -2,6 +2,7 @@
 //! written from docs/PROTOCOL.md and docs/WORKBENCH.md alone.
 
 mod cells;
+mod counts;
 mod end;
 mod generate;
 mod line;
@@ -23,7 +24,9 @@ const USAGE: &str = "usage: reference run
        reference generate packets
        reference generate media
        reference generate stations
+       reference generate line
        reference generate workbench
+       reference counts
        reference monitor SECONDS [SEED]";
 
 fn main() -> ExitCode {
@@ -35,6 +38,8 @@ fn main() -> ExitCode {
         [Some("generate"), Some("packets")] => output.write_all(&generate::packets()),
         [Some("generate"), Some("media")] => output.write_all(&generate::media()),
         [Some("generate"), Some("stations")] => output.write_all(&generate::stations()),
+        [Some("generate"), Some("line")] => output.write_all(&generate::line()),
+        [Some("counts")] => write!(output, "{}", counts::Counts::of(&generate::workbench())),
         [Some("generate"), Some("workbench")] => output.write_all(&generate::workbench()),
         [Some("monitor"), Some(seconds)] => watch(seconds, "0", &mut output),
         [Some("monitor"), Some(seconds), Some(seed)] => watch(seconds, seed, &mut output),

@@ -31,6 +31,11 @@ impl Bench {
         self.ends.keep_a_slip()
     }
 
+    /// The line that is open.
+    pub fn line(&self) -> Option<&Line> {
+        self.line.as_ref()
+    }
+
     /// Answers every line of the input, as they follow on those before.
     pub fn run(&mut self, input: impl BufRead, mut output: impl Write) -> io::Result<()> {
         let mut lines = Lines::new(input);

@@ -171,3 +171,15 @@ pub const END_LIKELY: &str = "\
     end a b open submit timeout arrive take give collect settings state 5 255 256 sum xor \
     01000600C8012C0308 01000600C8012C0108 025203D5 024503C8 02304F4B03CD 02413703FB 4F4B - 'OK ' \
     96 95 65536 \t \u{ff}";
+
+/// Words for SIDE, right and wrong.
+pub const SIDE: &str = "\
+    west east 0 1 00 001 2 02 255 0255 256 257 1000 65536 4294967296 18446744073709551616 \
+    West WEST wes westt eas easts west,east w e a b +1 -1 - -- 'west west' west\r \twest 1\t 0x1 1. \
+    \u{661} \u{ff} SIDE sum";
+
+/// Words that line commands are made of, and some others.
+pub const LINE_LIKELY: &str = "\
+    open submit timeout arrive read collect settings state west east 0 1 2 256 sum xor \
+    01000600C8012C0308 01000600C8012C0108 4F4B - 'OK 96 95 queue:2 packed:40 noisy:2:4 \
+    lossy:5/queue:1 \t \u{ff}";

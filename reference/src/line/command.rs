@@ -53,7 +53,7 @@ fn state(line: &mut Option<Line>, words: &mut Words, output: &mut impl Write) ->
 }
 
 /// The call that this word begins.
-fn call(word: &[u8], words: &mut Words) -> Result<Call, Error> {
+pub fn call(word: &[u8], words: &mut Words) -> Result<Call, Error> {
     let action: fn(&mut Words) -> Result<Action, Error> = match word {
         b"submit" => |words| Ok(Action::Submit(words.last_bytes()?.into_owned())),
         b"timeout" => |_| Ok(Action::Timeout),
