@@ -46,13 +46,15 @@ pub trait Medium {
         ensures { result ≡ some_letter (letters class) (bursts self.now) };
 
     // Takes the first burst out, to the start of the place, and tells its length: 0 exactly
-    // where there is none, a rule of the product that needs no Option, as no burst is empty.
+    // where there is none, a rule of the product that needs no Option, as no burst is empty; all
+    // is then as it was.
     fn take(&mut self, place: &mut [u8; LONGEST]) -> usize
         ensures value { result ≡ length (first (bursts self.old)) }
         ensures bound { result ≤ 104 }
         ensures none { result ≡ 0 → bursts self.old ≡ [] }
         ensures place { place.new ≡ first (bursts self.old) ++ drop result place.old }
         ensures after { bursts self.new ≡ drop 1 (bursts self.old) }
+        ensures unchanged { result ≡ 0 → self.new ≡ self.old }
         ensures exact { takes self.old self.new };
 
     // Each burst under way has 1 to 104 bytes.

@@ -1,2 +1,3 @@
 pub mod Rowed
+pub mod Same
 pub mod Walks

@@ -4,7 +4,7 @@
 pub mod iter;
 pub mod slots;
 
-ghost use Rattle.std.specs.Prelude.{◌≡◌, [], ◌∷◌, ◌++◌, length, drop, if◌then◌else◌, nat_lt};
+ghost use Rattle.std.specs.Prelude.{◌≡◌, [], ◌∷◌, ◌++◌, length, drop, if◌then◌else◌, None, nat_lt};
 ghost use Rattle.std.specs.List.{slice_get};
 ghost use Rattle.ring.specs.Iter.{left};
 ghost use Rattle.ring.specs.Ring.{elements, places, InPlace, Over, Anew};
@@ -74,6 +74,7 @@ impl<'a, T: Copy> Ring<'a, T> {
         ensures value { result ≡ slice_get (elements self.old) 0 }
         ensures after { elements self.new ≡ drop 1 (elements self.old) }
         ensures place { InPlace self.old self.new }
+        ensures unchanged { result ≡ None → self.new ≡ self.old }
     {
         let mut rest = self.span;
         let oldest = self.take_from(&mut rest);
@@ -87,6 +88,7 @@ impl<'a, T: Copy> Ring<'a, T> {
         ensures value { result ≡ slice_get (held self.now.slots.now span.old) 0 }
         ensures after { held self.now.slots.now span.new ≡ drop 1 (held self.now.slots.now span.old) }
         ensures limit { span.new.limit ≡ span.old.limit }
+        ensures unchanged { result ≡ None → span.new ≡ span.old }
     {
         slots::take(self.slots, span)
     }

@@ -1,6 +1,6 @@
 // The three functions of a first-in first-out store in a lent slice, written once for every
 // kind of element that is copied (a rule of the project: fixed memory, and no heap).
-ghost use Rattle.std.specs.Prelude.{◌≡◌, ◌<◌, ◌≤◌, [], ◌∷◌, ◌++◌, length, drop, if◌then◌else◌, nat_lt};
+ghost use Rattle.std.specs.Prelude.{◌≡◌, ◌<◌, ◌≤◌, [], ◌∷◌, ◌++◌, length, drop, if◌then◌else◌, None, nat_lt};
 ghost use Rattle.std.specs.List.{slice_get};
 ghost use Rattle.ring.specs.Slots.{held, room, place, Within};
 
@@ -84,6 +84,7 @@ pub fn take<T: Copy>(slots: &[T], span: &mut Span) -> Option<T>
     ensures value { result ≡ slice_get (held slots.now span.old) 0 }
     ensures after { held slots.now span.new ≡ drop 1 (held slots.now span.old) }
     ensures limit { span.new.limit ≡ span.old.limit }
+    ensures unchanged { result ≡ None → span.new ≡ span.old }
 {
     let s = span.within(slots.len());
     if s.len == 0 {
