@@ -12,6 +12,10 @@ mod tests {
     use noise::noisy::NoisyMedium;
     use packing::packed::PackedMedium;
     use ring::Ring;
+    use stranger_media::altering::AlteringMedium;
+    use stranger_media::alternating::AlternatingMedium;
+    use stranger_media::losing::LosingMedium;
+    use stranger_media::through::through_to_queue;
 
     #[test]
     fn ring_goes_round_below_its_limit(rt: HostRuntime) {
@@ -88,5 +92,27 @@ mod tests {
         assert!(rt; place[0] == b'a' ^ 1 && place[1] == b'b');
         assert_eq!(rt; lossy.take(&mut place), 3);
         assert!(rt; place[0] == b'a' && place[1] == b'b' ^ 1);
+    }
+
+    #[test]
+    fn media_of_a_users_own(rt: HostRuntime) {
+        let mut memory = [Burst::blank(); 4];
+        let mut layer = AlternatingMedium::over(AlteringMedium::over(&mut memory));
+        let mut place = [0xee_u8; 104];
+        assert_eq!(rt; layer.offer(b"abc"), Offer::Spoilt);
+        assert_eq!(rt; layer.offer(b"lost"), Offer::Spoilt);
+        assert_eq!(rt; layer.offer(b"\xff"), Offer::Spoilt);
+        assert_eq!(rt; layer.count(), 2);
+        assert_eq!(rt; layer.take(&mut place), 3);
+        assert!(rt; place[0] == b'b' && place[1] == b'b');
+        assert_eq!(rt; layer.take(&mut place), 1);
+        assert!(rt; place[0] == 0 && place[1] == b'b');
+        let mut losing = LosingMedium;
+        assert_eq!(rt; losing.offer(b"abc"), Offer::Spoilt);
+        assert_eq!(rt; losing.take(&mut place), 0);
+        let mut queue = QueueMedium::over(&mut memory);
+        assert_eq!(rt; through_to_queue(&mut queue, 1, b"lost"), Offer::Spoilt);
+        assert_eq!(rt; through_to_queue(&mut queue, 2, b"whole"), Offer::Whole);
+        assert_eq!(rt; queue.count(), 1);
     }
 }

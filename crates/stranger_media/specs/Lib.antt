@@ -1,0 +1,2 @@
+pub mod Altering
+pub mod Alternating
