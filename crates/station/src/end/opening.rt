@@ -38,11 +38,7 @@ impl<K: Check> End<K> {
     }
 
     // Opens an end with the settings in a frame, which can be refused with 8 to 13.
-    pub fn new(
-        line: u8,
-        frame: &[u8],
-        place: &mut [u8; 104],
-    ) -> Result<(End<K>, Report), Refusal>
+    pub fn new(line: u8, frame: &[u8], place: &mut [u8; 104]) -> Result<(End<K>, Report), Refusal>
         ensures value { answer (λ x. told x.1) result ≡ seen (telling K.Check.meaning) (opening_of line frame.now) }
         ensures made { answer (λ x. model x.0) result ≡ seen (λ d. d.next) (opening_of line frame.now) }
         ensures in_order { IfOk result (λ x. LeaveInOrder K.Check.LEN K.Check.meaning (model x.0)) }
