@@ -32,7 +32,8 @@ use Rattle.agreement.specs.Transcript.{Ledger, asked, sent_told, ledger_after, s
 use Rattle.agreement.proofs.Channel.{Reply, Empty, InvOf, noted, sent_noted, Went, not_sent, never, submission_keeps, reset_keeps, ack_keeps, timeout_keeps, limit_free, enq_answered, ignored, data_stored}
 use Rattle.agreement.proofs.Readings.{commands_in, replies_in, Fits, as_list, new, found, or_parts, no_commands, no_replies, command_new, command_quiet, reply_of, response_new, response_quiet}
 use Rattle.agreement.proofs.Counts.{cell_counted, asks_one, accepted_in}
-use Rattle.agreement.proofs.Sends.{Sendable, Fair, ack_fits, response_fits, heard_valid, cell_fair}
+use Rattle.station.proofs.Sendable.{Sendable, heard_valid}
+use Rattle.agreement.proofs.Sends.{Fair, ack_fits, response_fits, cell_fair}
 
 -- what is known of an end of a line
 pub record Sound (e : ends.End) : Type 0 where

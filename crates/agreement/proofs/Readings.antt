@@ -11,7 +11,7 @@ use Rattle.packet.specs.Refusals.{Answer, refused, gave}
 use Rattle.packet.specs.declared.number.Number.TheVariants.{Zero, One}
 use Rattle.packet.proofs.Alterations.{altered_refused}
 use Rattle.packet.proofs.Judging.{passed}
-use Rattle.packet.proofs.Roundtrip.{Accepted, makes, reads_back}
+use Rattle.packet.proofs.Roundtrip.{Accepted, makes, reads_back, letter_same}
 use Rattle.primary.specs.Station.{Command, ENQ, DATA}
 use Rattle.secondary.specs.declared.reply.Answer.{Answer as Response}
 use Rattle.secondary.specs.declared.reply.Answer.TheVariants.{Reset, Ack}
@@ -48,9 +48,6 @@ as_list (Some x) = x ∷ []
 abbrev pub new : {X : Type 0} → (Answer Parts → List X) → Option (ℕ × List ℕ) → List X
 new f None = []
 new f (Some p) = f (gave (parts p.0 2 p.1))
-
-letter_same : {k l p q : ℕ} {f g : List ℕ} → parts k p f ≡ parts l q g → k ≡ l
-letter_same e = cc
 
 pub or_parts : (a b : Bool) → (a || b) ≡ false → (a ≡ false) × (b ≡ false)
 or_parts true b h = never h

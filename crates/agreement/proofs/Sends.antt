@@ -1,25 +1,22 @@
 -- What an end sends can be sent, and its messages without outcome stay ones that can.
-use Rattle.std.proofs.Common.{◌≡◌, ℕ, ◌+◌, ◌≤◌, Bool, true, false, cond, not, leb, List, [], ◌∷◌, ◌++◌, length, Some, None, Option, refl, arith}
+use Rattle.std.proofs.Common.{◌≡◌, ℕ, ◌+◌, ◌≤◌, Bool, true, false, cond, not, leb, List, [], ◌∷◌, length, Some, None, Option, refl, arith}
 use mathlib.Core.Bool.{beq}
 use Rattle.std.specs.Option.{option_map}
-use Rattle.std.proofs.lemmas.Bool.{and_parts, and_from, not-false}
+use Rattle.std.proofs.lemmas.Bool.{and_parts}
 use Rattle.std.proofs.lemmas.Bool.Decides.{nat_tests}
 use Rattle.packet.specs.Bytes.{data_byte}
 use Rattle.packet.specs.Letters.{between, each_between}
 use Rattle.packet.specs.declared.number.Number.{Number}
 use Rattle.packet.specs.declared.number.Number.TheVariants.{Zero, One}
-use Rattle.packet.proofs.Judging.{Passed}
 use Rattle.packet.proofs.Roundtrip.{Accepted}
-use Rattle.primary.specs.Station.{Message, Phase, off, ready, waiting, asking, Station, Heard, submission, reset, ack, timeout, Did, unsettled_in}
-use Rattle.primary.specs.Table.{at, cell, rules, arrives, rests, gives_up, asks, sends_again}
+use Rattle.primary.specs.Station.{Message, Phase, off, ready, waiting, asking, Station, Heard, submission, reset, ack, timeout, Did}
+use Rattle.primary.specs.Table.{at, cell, arrives, rests, gives_up, asks, sends_again}
 use Rattle.secondary.specs.declared.reply.Answer.TheVariants.{Ack}
 use Rattle.secondary.specs.Station.{with_credit}
 use Rattle.station.specs.End.{command_parts, answer_parts}
 use Rattle.station.specs.Valid.{valid, all_valid}
+use Rattle.station.proofs.Sendable.{Sendable, HeardValid, cell_valid}
 use Rattle.agreement.proofs.Readings.{Fits}
-
-abbrev pub Sendable : Phase → Type 0
-Sendable ph = all_valid (unsettled_in ph) ≡ true
 
 -- sends what can be sent, and keeps messages that can
 abbrev pub Fair : Did → Type 0
@@ -43,53 +40,38 @@ pub response_fits : (last : Option Number) (k : ℕ) → k ≤ 8 → Fits (answe
 response_fits None k h = record { letter = refl; size = refl; bytes = refl }
 response_fits (Some n) k h = ack_fits n k h
 
--- a message that is heard can be sent
-abbrev HeardValid : Heard → Type 0
-HeardValid (submission m) = valid m ≡ true
-HeardValid reset = Unit {0}
-HeardValid (ack n k) = Unit {0}
-HeardValid timeout = Unit {0}
+abbrev Sends : Did → Type 0
+Sends d = Fits (option_map command_parts d.sent)
 
-pub heard_valid : (h : Heard) (s : Station) → Passed (rules h s) → HeardValid h
-heard_valid (submission m) s p = and_from (between 1 96 (length m)) (each_between 0x20 0x7e m) (not-false _ p.0) (not-false _ p.1.0)
-heard_valid reset s p = tt
-heard_valid (ack n k) s p = tt
-heard_valid timeout s p = tt
+next_fits : (ms : List Message) (s : Station) → all_valid ms ≡ true → Sends (arrives ms s)
+next_fits [] s v = tt
+next_fits (m ∷ ms) s v = data_fits (not s.number) m (and_parts (valid m) (all_valid ms) v).0
 
-joined : (ms : List Message) (m : Message) → all_valid ms ≡ true → valid m ≡ true → all_valid (ms ++ m ∷ []) ≡ true
-joined [] m v w = and_from (valid m) true w refl
-joined (x ∷ ms) m v w = let p = and_parts (valid x) (all_valid ms) v in and_from (valid x) (all_valid (ms ++ m ∷ [])) p.0 (joined ms m p.1 w)
-
-arrives_fair : (ms : List Message) (s : Station) → all_valid ms ≡ true → Fair (arrives ms s)
-arrives_fair [] s v = (tt, refl)
-arrives_fair (m ∷ ms) s v = (data_fits (not s.number) m (and_parts (valid m) (all_valid ms) v).0, v)
-
-again_fair : (c : Message) (ms : List Message) (s : Station) → all_valid (c ∷ ms) ≡ true → Fair (sends_again c ms s)
-again_fair c ms s v = (data_fits s.number c (and_parts (valid c) (all_valid ms) v).0, v)
+again_fits : (c : Message) (ms : List Message) (s : Station) → all_valid (c ∷ ms) ≡ true → Sends (sends_again c ms s)
+again_fits c ms s v = data_fits s.number c (and_parts (valid c) (all_valid ms) v).0
 
 -- one of two ways
-either : (b : Bool) (x y : Did) → Fair x → Fair y → Fair (cond b x y)
+either : (b : Bool) (x y : Did) → Sends x → Sends y → Sends (cond b x y)
 either true x y f g = f
 either false x y f g = g
 
+cell_sends : (M : ℕ) (s : Station) (ph : Phase) (h : Heard) → HeardValid h → Sendable ph → Sends (cell M s ph h)
+cell_sends M s off (submission m) w v = tt
+cell_sends M s off reset w v = tt
+cell_sends M s off (ack n k) w v = tt
+cell_sends M s off timeout w v = enq_fits
+cell_sends M s ready (submission m) w v = data_fits (not s.number) m w
+cell_sends M s ready reset w v = tt
+cell_sends M s ready (ack n k) w v = tt
+cell_sends M s ready timeout w v = tt
+cell_sends M s (waiting c ms) (submission m) w v = tt
+cell_sends M s (waiting c ms) reset w v = tt
+cell_sends M s (waiting c ms) (ack n k) w v = either (beq n s.number) (arrives ms s) (rests s) (next_fits ms s (and_parts (valid c) (all_valid ms) v).1) tt
+cell_sends M s (waiting c ms) timeout w v = either (leb M s.attempts) (gives_up ms s) (asks (asking c ms) s) enq_fits enq_fits
+cell_sends M s (asking c ms) (submission m) w v = tt
+cell_sends M s (asking c ms) reset w v = again_fits c ms s v
+cell_sends M s (asking c ms) (ack n k) w v = either (beq n s.number) (arrives ms s) (sends_again c ms s) (next_fits ms s (and_parts (valid c) (all_valid ms) v).1) (again_fits c ms s v)
+cell_sends M s (asking c ms) timeout w v = either (leb M s.attempts) (gives_up ms s) (asks (asking c ms) s) enq_fits enq_fits
+
 pub cell_fair : (M : ℕ) (s : Station) (ph : Phase) (h : Heard) → HeardValid h → Sendable ph → Fair (cell M (at ph s) ph h)
-cell_fair M s off (submission m) w v = (tt, refl)
-cell_fair M s off reset w v = (tt, refl)
-cell_fair M s off (ack n k) w v = (tt, refl)
-cell_fair M s off timeout w v = (enq_fits, refl)
-cell_fair M s ready (submission m) w v = (data_fits (not s.number) m w, and_from (valid m) true w refl)
-cell_fair M s ready reset w v = (tt, refl)
-cell_fair M s ready (ack n k) w v = (tt, refl)
-cell_fair M s ready timeout w v = (tt, refl)
-cell_fair M s (waiting c ms) (submission m) w v = (tt, joined (c ∷ ms) m v w)
-cell_fair M s (waiting c ms) reset w v = (tt, v)
-cell_fair M s (waiting c ms) (ack n k) w v =
-    let t = at (waiting c ms) s in
-    either (beq n s.number) (arrives ms t) (rests t) (arrives_fair ms t (and_parts (valid c) (all_valid ms) v).1) (tt, v)
-cell_fair M s (waiting c ms) timeout w v = let t = at (waiting c ms) s in either (leb M s.attempts) (gives_up ms t) (asks (asking c ms) t) (enq_fits, refl) (enq_fits, v)
-cell_fair M s (asking c ms) (submission m) w v = (tt, joined (c ∷ ms) m v w)
-cell_fair M s (asking c ms) reset w v = again_fair c ms (at (asking c ms) s) v
-cell_fair M s (asking c ms) (ack n k) w v =
-    let t = at (asking c ms) s in
-    either (beq n s.number) (arrives ms t) (sends_again c ms t) (arrives_fair ms t (and_parts (valid c) (all_valid ms) v).1) (again_fair c ms t v)
-cell_fair M s (asking c ms) timeout w v = let t = at (asking c ms) s in either (leb M s.attempts) (gives_up ms t) (asks (asking c ms) t) (enq_fits, refl) (enq_fits, v)
+cell_fair M s ph h w v = (cell_sends M (at ph s) ph h w v, cell_valid M (at ph s) ph h refl w v)
