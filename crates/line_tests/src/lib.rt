@@ -1,0 +1,5 @@
+//! A line as its user leads it.
+#![tactic(auto)]
+
+#[cfg(test)]
+mod tests;
