@@ -1,4 +1,6 @@
 //! Short days on a line, told by what each call answers. The expected values come from the tables of docs/PROTOCOL.md.
+use crate::early::timeout_at_once;
+use crate::led;
 use Call::{Arrive, Collect, ReadOut, Set, Submit, Timeout};
 use Offer::{Spoilt, Whole};
 use Said::{Answered, Collected, Heard, Nothing, Read, Refused, Sent};
@@ -357,4 +359,22 @@ fn a_short_place_gives_21(rt: HostRuntime) {
     let read = opened.line.read_out(1, &eastward, &westward, &mut copy);
     assert_eq!(rt; read.map_err(u8::from), Err(21));
     assert_eq!(rt; copy, [0xeeu8; 95]);
+}
+
+/// The timeout is asked for too early; and a message is read out.
+#[test]
+fn what_is_proved_runs(rt: HostRuntime) {
+    let early = timeout_at_once::<Pair>(&FRAME, &FRAME).map(told);
+    assert_eq!(rt; early.map_err(u8::from), Ok(Refused(27)));
+    let mut memory = [Burst::blank(); 4];
+    let mut other = [Burst::blank(); 4];
+    let mut eastward = QueueMedium::over(&mut memory);
+    let mut westward = QueueMedium::over(&mut other);
+    let mut copy = [0; 96];
+    let led = led::lead::<Five, _, _>(&FRAME, &FRAME, &OK, &mut eastward, &mut westward, &mut copy);
+    let Ok(led) = led else {
+        panic!(rt; "the line is not opened");
+    };
+    assert_eq!(rt; told(led.submitted), Sent(DATA, Whole));
+    assert_eq!(rt; read(led.read, &copy), Read(OK));
 }
