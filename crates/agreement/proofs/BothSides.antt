@@ -1,5 +1,5 @@
 -- Both sides of a line: the invariant of each channel holds at the opening and after each call, and gives the promise.
-use Rattle.std.proofs.Common.{◌≡◌, ℕ, ◌+◌, ◌≤◌, Bool, true, false, cond, eqb, ltb, List, [], ◌∷◌, ◌++◌, length, drop, Some, None, Option, sym, refl, ap, ◌∙◌, subst, inl, inr, arith}
+use Rattle.std.proofs.Common.{◌≡◌, ℕ, suc, length-append, ◌+◌, ◌≤◌, Bool, true, false, cond, eqb, ltb, List, [], ◌∷◌, ◌++◌, length, drop, Some, None, Option, sym, refl, ap, ◌∙◌, subst, inl, inr, arith}
 use Rattle.std.proofs.Math.Dec.{eqb-suc-zero}
 use Rattle.std.proofs.lemmas.Bool.{eqb-true}
 use Rattle.std.proofs.lemmas.List.{append-nil}
@@ -52,14 +52,25 @@ current_picks l n c ms st cs (e ∷ es) base p (inr h) q =
     subst (λ (x : List (List ℕ)). Picks l (cs ++ e ∷ es) x) (append-nil base ∙ sym h.1)
     (picks_joined (e ∷ es) [] p (passed_by (λ b. h.0 (subst (λ (X : Type 0). X) (meets_if_borne l n e q.0.1 q.0.2) b)) (rest_passed l ms es q.1)))
 
-none_wait : (l : Reply) (st : List (List ℕ)) (cs ws : List Accepted) → Empty ws → PickedAlways cs st → Picks l (cs ++ ws) st × InTime ws
-none_wait l st cs [] h p = (subst (λ (x : List Accepted). Picks l x st) (sym (append-nil cs)) (p l), tt)
+-- the messages without outcome are those that the primary station has
+rest_length : (ms : List (List ℕ)) (es : List Accepted) → Rest ms es → length es ≡ length ms
+rest_length [] [] r = refl
+rest_length [] (e ∷ es) r = absurd r
+rest_length (m ∷ ms) [] r = absurd r
+rest_length (m ∷ ms) (e ∷ es) r = ap suc (rest_length ms es r.1)
+
+queue_length : (n : Bool) (c : List ℕ) (ms : List (List ℕ)) (ws : List Accepted) → Queue n c ms ws → length ws ≡ suc (length ms)
+queue_length n c ms [] q = absurd q
+queue_length n c ms (e ∷ es) q = ap suc (rest_length ms es q.1)
+
+none_wait : (l : Reply) (st : List (List ℕ)) (cs ws : List Accepted) → Empty ws → PickedAlways cs st → Picks l (cs ++ ws) st × InTime ws × (length ws ≡ 0)
+none_wait l st cs [] h p = (subst (λ (x : List Accepted). Picks l x st) (sym (append-nil cs)) (p l), tt, refl)
 none_wait l st cs (e ∷ ws) h p = absurd h
 
-current_kept : (n : Bool) (a M : ℕ) (l : Reply) (c : List ℕ) (ms st : List (List ℕ)) (cs ws : List Accepted) → Current n a M l c ms st cs ws → Picks l (cs ++ ws) st × InTime ws
-current_kept n a M l c ms st cs ws i = (current_picks l n c ms st cs ws i.base (i.picks l) i.here i.queue, in_time M i.t 0 ws i.below i.due)
+current_kept : (n : Bool) (a M : ℕ) (l : Reply) (c : List ℕ) (ms st : List (List ℕ)) (cs ws : List Accepted) → Current n a M l c ms st cs ws → Picks l (cs ++ ws) st × InTime ws × (length ws ≡ suc (length ms))
+current_kept n a M l c ms st cs ws i = (current_picks l n c ms st cs ws i.base (i.picks l) i.here i.queue, in_time M i.t 0 ws i.below i.due, queue_length n c ms ws i.queue)
 
-channel_kept : (ph : primary.Phase) (n : Bool) (a M : ℕ) (l : Reply) (C : List primary.Command) (R : List Reply) (st : List (List ℕ)) (cs ws : List Accepted) → Inv ph n a M l C R st cs ws → Picks l (cs ++ ws) st × InTime ws
+channel_kept : (ph : primary.Phase) (n : Bool) (a M : ℕ) (l : Reply) (C : List primary.Command) (R : List Reply) (st : List (List ℕ)) (cs ws : List Accepted) → Inv ph n a M l C R st cs ws → Picks l (cs ++ ws) st × InTime ws × (length ws ≡ length (primary.unsettled_in ph))
 channel_kept primary.off n a M l C R st cs ws i = none_wait l st cs ws i.1 i.2
 channel_kept primary.ready n a M l C R st cs ws i = none_wait l st cs ws i.2 i.3
 channel_kept (primary.waiting c ms) n a M l C R st cs ws i = current_kept n a M l c ms st cs ws i.1
@@ -342,7 +353,8 @@ module _ (c : ℕ) (check : List ℕ → List ℕ) where
         stored = stored;
         read_in_order = (f.secondary.held, stored);
         in_time = k.1;
-        outcomes = let e = g.counted in omega arith;
+        outcomes = let e = g.counted in let w = k.2 in let a = length-append (ledger s h).closed (ledger s h).waits in omega arith;
+        no_more_outcomes = let e = g.counted in omega arith;
       }
 
   pub kept : {h : Transcript} {l : Line} → AllGood h l → Kept c check h l

@@ -5,7 +5,7 @@ use Rattle.primary.specs.declared.outcome.Outcome.{Outcome}
 use Rattle.primary.specs.Station.{Message, Phase, off, ready, waiting, asking, Station, Heard, submission, reset, ack, timeout, Did, unsettled_in, is_off}
 use Rattle.primary.specs.Table.{at, cell, arrives, rests, gives_up, asks, sends_again}
 use Rattle.packet.specs.Refusals.{Answer, refused, gave}
-use Rattle.agreement.specs.Calls.{Call, Submit, Arrive, Expire, ReadOut, Collect, Set, Said, reported, read, collected, settled}
+use Rattle.agreement.specs.Calls.{Call, Submit, Arrive, Expire, ReadOut, Collect, Set, Said, reported, read, collected, adopted}
 use Rattle.agreement.specs.Transcript.{Accepted, accepted, Ledger, newcomer, all_later, ended, settle, settles, numbered, data_sent, sent_told, asked, outcomes_told, ledger_after}
 use Rattle.agreement.proofs.Channel.{never}
 
@@ -73,7 +73,7 @@ accepted_in k (refused n) = 0
 accepted_in k (gave (reported letter t)) = asks_one k
 accepted_in k (gave (read m)) = 0
 accepted_in k (gave (collected o)) = 0
-accepted_in k (gave settled) = 0
+accepted_in k (gave adopted) = 0
 
 -- the accepted messages of a ledger, as a number
 abbrev pub size : Ledger → ℕ
@@ -127,4 +127,4 @@ ledger_size k (gave (reported letter t)) l M g =
     sent_size t.sent (outcomes_told t l (asked k M g)) ∙ settles_size _ l t.no_connections _ ∙ settles_size _ l t.give_ups _ ∙ settles_size _ l t.arrivals (asked k M g) ∙ asked_size k M g
 ledger_size k (gave (read m)) l M g = omega arith
 ledger_size k (gave (collected o)) l M g = omega arith
-ledger_size k (gave settled) l M g = omega arith
+ledger_size k (gave adopted) l M g = omega arith

@@ -27,7 +27,7 @@ use Rattle.medium.specs.Letters as letters
 use Rattle.station.specs.End as ends
 use Rattle.station.specs.Reports.{telling}
 use Rattle.agreement.specs.Line.{Burst}
-use Rattle.agreement.specs.Calls.{Call, Submit, Arrive, Expire, ReadOut, Collect, Set, reported, read, collected, settled, Acted, unless, letter_of, done, act}
+use Rattle.agreement.specs.Calls.{Call, Submit, Arrive, Expire, ReadOut, Collect, Set, reported, read, collected, adopted, Acted, unless, letter_of, done, act}
 use Rattle.agreement.specs.Transcript.{Ledger, asked, sent_told, ledger_after, settings_after, last_after, answer_told, read_after, outcomes_in}
 use Rattle.agreement.proofs.Channel.{Reply, Empty, InvOf, noted, sent_noted, Went, not_sent, never, submission_keeps, reset_keeps, ack_keeps, timeout_keeps, limit_free, enq_answered, ignored, data_stored}
 use Rattle.agreement.proofs.Readings.{commands_in, replies_in, Fits, as_list, new, found, or_parts, no_commands, no_replies, command_new, command_quiet, reply_of, response_new, response_quiet}
@@ -330,7 +330,7 @@ module _ (c : ℕ) (check : List ℕ → List ℕ) where
         far (o ∷ os) p M rd g R' i w = keep (λ (R : List Reply). InvOf p M (last_of e) (commands into) R (rd ++ e.secondary.held) g) w i
 
     goes_set : (f : List ℕ) (a : Answer Settings) → a ≡ ends.change e f
-        → Goes (Set f) e CO RO (commands into) (replies into) (record { next = ends.set_by a e; into = into; sent = None; answer = ends.seen (λ x. settled) a })
+        → Goes (Set f) e CO RO (commands into) (replies into) (record { next = ends.set_by a e; into = into; sent = None; answer = ends.seen (λ x. adopted) a })
     goes_set f (refused n) is = goes_refused (Set f) n
     goes_set f (gave x) is =
         let p = e.primary in

@@ -26,12 +26,12 @@ pub data Call : Type 0 where
   Set : List ℕ → Call
 
 -- what a call that is not refused returns: the letter that was heard, if one was, and what the end's stations did; the
--- message read out; the number of the outcome collected; or nothing
+-- message read out; the number of the outcome collected; or, of new settings, nothing
 pub data Said : Type 0 where
   reported : Option ℕ → Told → Said
   read : List ℕ → Said
   collected : ℕ → Said
-  settled : Said
+  adopted : Said
 
 -- the end after a call and the bursts then toward it, the letter and field of the packet sent, and the answer
 pub record Acted : Type 0 where
@@ -68,7 +68,7 @@ abbrev pub collects : End → List Burst → Acted
 collects e into = record { next = with_primary (primary.collected e.primary) e; into = into; sent = None; answer = seen collected (oldest e.primary.outcomes) }
 
 abbrev pub sets : List ℕ → End → List Burst → Acted
-sets f e into = record { next = set_by (change e f) e; into = into; sent = None; answer = seen (λ s. settled) (change e f) }
+sets f e into = record { next = set_by (change e f) e; into = into; sent = None; answer = seen (λ s. adopted) (change e f) }
 
 abbrev pub sent_by : Answer Done → Option (ℕ × List ℕ)
 sent_by (refused n) = None

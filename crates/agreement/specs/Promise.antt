@@ -29,8 +29,9 @@ pub record KeptFor (c : ℕ) (check : List ℕ → List ℕ) (s : Side) (h : Tra
   -- no message that was not accepted, none altered, repeated or out of order ever reaches a user there
   pub read_in_order : Begins (last_answer (across s) h) (accepted (ledger s h)) (read_by (across s) h)
   pub in_time : InTime (ledger s h).waits
-  -- no outcome is told but of an accepted message
-  pub outcomes : outcome_count s h ≤ length (accepted (ledger s h))
+  -- each outcome that was told is that of one accepted message, so no more are told than messages were accepted
+  pub outcomes : outcome_count s h ≡ length (ledger s h).closed
+  pub no_more_outcomes : outcome_count s h ≤ length (accepted (ledger s h))
 
 pub record Kept (c : ℕ) (check : List ℕ → List ℕ) (h : Transcript) (l : Line) : Type 0 where
   pub from_west : KeptFor c check West h l

@@ -11,7 +11,7 @@ use Rattle.station.specs.Reports.{Told}
 use Rattle.agreement.specs.declared.sides.Side.{Side}
 use Rattle.agreement.specs.declared.sides.Side.TheVariants.{West, East}
 use Rattle.agreement.specs.Line.{across, side_number}
-use Rattle.agreement.specs.Calls.{Call, Submit, Arrive, Expire, ReadOut, Collect, Set, Said, reported, read, collected, settled}
+use Rattle.agreement.specs.Calls.{Call, Submit, Arrive, Expire, ReadOut, Collect, Set, Said, reported, read, collected, adopted}
 
 -- The settings frames of west and east at the opening and what their media answered, then each call with its side's number,
 -- its answer and its medium's answer, newest last.
@@ -109,7 +109,7 @@ ledger_after k (refused n) l M g = g
 ledger_after k (gave (reported letter t)) l M g = sent_told t.sent (outcomes_told t l (asked k M g))
 ledger_after k (gave (read m)) l M g = g
 ledger_after k (gave (collected o)) l M g = g
-ledger_after k (gave settled) l M g = g
+ledger_after k (gave adopted) l M g = g
 
 -- how many messages a call told an outcome of
 abbrev pub outcomes_in : Answer Said → ℕ
@@ -117,7 +117,7 @@ outcomes_in (refused n) = 0
 outcomes_in (gave (reported letter t)) = t.arrivals + (t.give_ups + t.no_connections)
 outcomes_in (gave (read m)) = 0
 outcomes_in (gave (collected o)) = 0
-outcomes_in (gave settled) = 0
+outcomes_in (gave adopted) = 0
 
 abbrev pub frame_after : Call → Settings → Settings
 frame_after (Submit m) s = s
@@ -141,14 +141,14 @@ last_after (refused n) l = l
 last_after (gave (reported letter t)) l = answer_told t.sent l
 last_after (gave (read m)) l = l
 last_after (gave (collected o)) l = l
-last_after (gave settled) l = l
+last_after (gave adopted) l = l
 
 abbrev pub read_after : Answer Said → List (List ℕ) → List (List ℕ)
 read_after (refused n) ms = ms
 read_after (gave (reported letter t)) ms = ms
 read_after (gave (read m)) ms = ms ++ m ∷ []
 read_after (gave (collected o)) ms = ms
-read_after (gave settled) ms = ms
+read_after (gave adopted) ms = ms
 
 abbrev pub frame_of : Side → List ℕ → List ℕ → List ℕ
 frame_of West w e = w

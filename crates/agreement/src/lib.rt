@@ -2,7 +2,7 @@
 #![tactic(auto)]
 
 ghost use Rattle.agreement.specs.Theorem.{StaysKept};
-ghost use Rattle.agreement.specs.Worked.{Worked};
+ghost use Rattle.agreement.specs.Worked.{WorkedLedgers, WorkedStores};
 
 mod sides;
 
@@ -17,5 +17,6 @@ pub fn stays_kept<K: Check>()
 
 /// A table of worked transcripts: what the words of the promise say of each.
 pub fn worked_transcripts()
-    ensures { Worked }
+    ensures ledgers { WorkedLedgers }
+    ensures stores { WorkedStores }
 {}

@@ -24,7 +24,7 @@ use Rattle.station.specs.Models.{model}
 use Rattle.station.specs.End.{End, Done, arrival, after_reading, seen, left_by, burst, written_over, placed_by}
 use Rattle.station.specs.Reports.{Told, told, telling, packet_sent}
 use Rattle.agreement.specs.Line.{Burst}
-use Rattle.agreement.specs.Calls.{Said, reported, read, settled, sent_by, burst_of, Offers, unless, arrival_rules, letter_of, done}
+use Rattle.agreement.specs.Calls.{Said, reported, read, adopted, sent_by, burst_of, Offers, unless, arrival_rules, letter_of, done}
 use Rattle.agreement.proofs.Readings.{read_letter}
 use Rattle.line.specs.declared.report.LineReport.{LineReport}
 use Rattle.line.specs.Called.{Does, message_in}
@@ -39,10 +39,6 @@ refused_same : {A : Type 0} {n m : ℕ} → ◌≡◌ {A = Answer A} (refused n)
 refused_same e = cc
 
 module _ (check : List ℕ → List ℕ) where
-  pub placed_is : (a : Answer Done) (place place' : List ℕ) → place' ≡ placed_by check a place → place' ≡ written_over (burst check (sent_by a)) place
-  placed_is (refused n) place place' e = e
-  placed_is (gave d) place place' e = e
-
   -- the packet that a report tells of lies at the place's front
   pub packet_written : (s : Option Sent) (p : Option (ℕ × List ℕ)) (place place' : List ℕ) → option_map packet_sent s ≡ option_map (λ p. (p.0, length (packet check p.0 p.1))) p → place' ≡ written_over (burst check p) place
       → written s place' ≡ burst_of check p
@@ -110,7 +106,7 @@ given_is (Ok x) e = refl
 given_is (Err x) e = never _ tt e
 
 -- settings that changed
-pub set_is : (r : Result (Unit {0}) Refusal) (a : Answer Settings) → answer (λ u. u) r ≡ set_answer a → answer (λ u. settled) r ≡ seen (λ s. settled) a
+pub set_is : (r : Result (Unit {0}) Refusal) (a : Answer Settings) → answer (λ u. u) r ≡ set_answer a → answer (λ u. adopted) r ≡ seen (λ s. adopted) a
 set_is (Ok x) (refused n) e = never n x (sym e)
 set_is (Ok x) (gave s) e = refl
 set_is (Err x) (refused n) e = ap (λ (m : ℕ). refused m) (refused_same e)

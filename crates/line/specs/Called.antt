@@ -9,7 +9,7 @@ use Rattle.station.specs.End.{burst, written_over}
 use Rattle.station.specs.Models.{model}
 use Rattle.agreement.specs.declared.sides.Side.{Side}
 use Rattle.agreement.specs.Line.{Burst, side_answer, Line, end_at}
-use Rattle.agreement.specs.Calls.{Call, Submit, Arrive, Expire, ReadOut, Collect, Set, Said, reported, read, collected, settled, Acted, message_read, act, acted, burst_of, Offers, Step}
+use Rattle.agreement.specs.Calls.{Call, Submit, Arrive, Expire, ReadOut, Collect, Set, Said, reported, read, collected, adopted, Acted, message_read, act, acted, burst_of, Offers, Step}
 use Rattle.agreement.specs.Theorem.{Keeps}
 use Rattle.line.specs.declared.opened.Line as lines
 use Rattle.line.specs.Models.{line_of}
@@ -21,7 +21,7 @@ message_in (refused n) = []
 message_in (gave (reported letter t)) = []
 message_in (gave (read m)) = m
 message_in (gave (collected o)) = []
-message_in (gave settled) = []
+message_in (gave adopted) = []
 
 -- what a call writes to the front of the caller's place: the packet that it sent, or the message that it read out
 abbrev pub front : (List ℕ → List ℕ) → Call → Acted → List ℕ

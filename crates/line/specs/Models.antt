@@ -13,7 +13,7 @@ use Rattle.station.specs.Reports.{told}
 use Rattle.line.specs.declared.report.LineReport.{LineReport}
 use Rattle.line.specs.declared.opened.Line as code
 use Rattle.agreement.specs.Line.{Burst, Line}
-use Rattle.agreement.specs.Calls.{Said, reported, read, collected, settled}
+use Rattle.agreement.specs.Calls.{Said, reported, read, collected, adopted}
 
 -- the line of two ends over two media with these bursts under way
 abbrev pub line_of : {K : Type 0} {k : check.Ghosts K} → code.Line K k → List Burst → List Burst → Line
@@ -38,4 +38,4 @@ abbrev pub collect_told : Result Outcome Refusal → Answer Said
 collect_told r = answer (λ o. collected (outcome_number o)) r
 
 abbrev pub set_told : Result (Unit {0}) Refusal → Answer Said
-set_told r = answer (λ u. settled) r
+set_told r = answer (λ u. adopted) r
