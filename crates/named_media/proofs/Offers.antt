@@ -1,4 +1,4 @@
--- The three kinds of media, each in a name's words. Assumes nothing.
+-- The three kinds of media, each in the words of a medium of any kind. Assumes nothing.
 use Rattle.std.proofs.Common.{◌≡◌, ℕ, ◌+◌, ◌%◌, ◌^◌, min, Bool, true, cond, not, ◌&&◌, leb, List, [], ◌∷◌, ◌++◌, length, drop, sym, refl, ap, ◌∙◌, arith, length-drop, MutBor}
 use Rattle.ring.specs.Ring as ring
 use Rattle.ring.specs.declared.Ring.{Ring}
@@ -15,7 +15,7 @@ use Rattle.noise.specs.declared.noisy.NoisyMedium.{NoisyMedium}
 use Rattle.packing.specs.Packed as packed
 use Rattle.packing.specs.Rowed.{packed as row_of}
 use Rattle.packing.specs.declared.packed.PackedMedium.{PackedMedium}
-use Rattle.named_media.specs.Model.{a_queue, a_packed, a_noisy}
+use Rattle.named_media.specs.Chosen.{a_queue, a_packed, a_noisy}
 use Rattle.named_media.proofs.Layers.{Reached, Does, layered}
 
 -- all memory is the places and what lies beyond them
@@ -26,8 +26,8 @@ pub same_memory : {X : Type 0} (r s : Ring X) → ring.InPlace r s → length (r
 same_memory r s k = memory_parts (ring.memory s) s.span.limit ∙ (λ i. k.places i + length (k.beyond i)) ∙ sym (memory_parts (ring.memory r) r.span.limit)
 
 -- a ring over xs with up to n places
-pub memory_of : {X : Type 0} (xs : List X) (n : ℕ) (r : Ring X) → ring.Over xs n r → length (ring.memory r) ≡ length xs
-memory_of xs n r o = memory_parts (ring.memory r) r.span.limit ∙ (λ i. o.places i + length (o.beyond i)) ∙ sym (memory_parts xs n)
+pub memory_lent : {X : Type 0} (xs : List X) (n : ℕ) (r : Ring X) → ring.Over xs n r → length (ring.memory r) ≡ length xs
+memory_lent xs n r o = memory_parts (ring.memory r) r.span.limit ∙ (λ i. o.places i + length (o.beyond i)) ∙ sym (memory_parts xs n)
 
 -- a burst that is carried
 when_carried : {A : Type 0} (c : Bool) (f : Bool → A) (x : A) → c ≡ true → x ≡ f c → x ≡ f true

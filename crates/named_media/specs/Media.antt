@@ -1,4 +1,4 @@
--- The medium of a name, and what each call makes of it. Assumes nothing.
+-- A medium of any kind, and that of a name, and what each call makes of them. Assumes nothing.
 use Rattle.std.specs.Prelude.{ℕ, ◌+◌, ◌%◌, ◌^◌, min, Bool, false, cond, not, ◌&&◌, List, [], ◌∷◌, ◌++◌, length, drop, Some, None, Option, nat_le, nat_lt}
 use Rattle.std.specs.Option.{option_map, unwrap_or}
 use Rattle.medium.specs.declared.offer.Offer.{Offer}
@@ -19,34 +19,46 @@ pub record Carrier : Type 0 where
   pub offers : ℕ
   pub bursts : List (List ℕ)
 
--- a name: its medium, and its memory for a queue, a packed and a noisy medium
-pub record Named : Type 0 where
-  pub carrier : Option Carrier
+-- memory: the places for a queue, the bytes for a packed medium and the places for a noisy one
+pub record Memory : Type 0 where
   pub for_queue : ℕ
   pub for_packed : ℕ
   pub for_noisy : ℕ
 
+-- a name: its medium, and its memory
+pub record Named : Type 0 where
+  pub carrier : Option Carrier
+  pub memory : Memory
+
 abbrev pub carrier_of : Base → ℕ → ℕ → List (List ℕ) → Carrier
 carrier_of base p k bs = record { base = base; loss = p; offers = k; bursts = bs }
 
-abbrev pub named_by : Option Carrier → ℕ → ℕ → ℕ → Named
-named_by c q p n = record { carrier = c; for_queue = q; for_packed = p; for_noisy = n }
+abbrev pub memory_of : ℕ → ℕ → ℕ → Memory
+memory_of q p n = record { for_queue = q; for_packed = p; for_noisy = n }
+
+abbrev pub named_by : Option Carrier → Memory → Named
+named_by c m = record { carrier = c; memory = m }
 
 abbrev pub with_carrier : Option Carrier → Named → Named
-with_carrier c n = named_by c n.for_queue n.for_packed n.for_noisy
+with_carrier c n = named_by c n.memory
 
 -- the bursts under way, where a medium is made
 abbrev pub under_way : Named → Option (List (List ℕ))
 under_way n = option_map (λ c. c.bursts) n.carrier
 
--- make: empty, in as many places as are asked for and there are
-abbrev pub fresh : Base → Named → Base
-fresh (Queue k) n = Queue (min n.for_queue (min k 4096))
-fresh (Packed k) n = Packed (min n.for_packed (min k 65536))
-fresh (Noisy k p) n = Noisy (min n.for_noisy (min k 4096)) p
+-- in as many places as are asked for and there are
+abbrev pub fresh : Base → Memory → Base
+fresh (Queue k) m = Queue (min m.for_queue (min k 4096))
+fresh (Packed k) m = Packed (min m.for_packed (min k 65536))
+fresh (Noisy k p) m = Noisy (min m.for_noisy (min k 4096)) p
 
+-- a medium begun anew, empty
+abbrev pub begun : Spec → Memory → Carrier
+begun s m = carrier_of (fresh s.base m) (unwrap_or s.loss 0) 0 []
+
+-- make
 abbrev pub made_by : Spec → Named → Named
-made_by s n = with_carrier (Some (carrier_of (fresh s.base n) (unwrap_or s.loss 0) 0 [])) n
+made_by s n = with_carrier (Some (begun s n.memory)) n
 
 -- there is room for b behind the bursts bs
 abbrev pub has_room : Base → List (List ℕ) → List ℕ → Bool
@@ -99,8 +111,11 @@ abbrev pub offered_to : List ℕ → Named → Named
 offered_to b n = with_carrier (option_map (offered b) n.carrier) n
 
 -- take
+abbrev pub taken : Carrier → Carrier
+taken c = carrier_of c.base c.loss c.offers (drop 1 c.bursts)
+
 abbrev pub taken_from : Named → Named
-taken_from n = with_carrier (option_map (λ c. carrier_of c.base c.loss c.offers (drop 1 c.bursts)) n.carrier) n
+taken_from n = with_carrier (option_map taken n.carrier) n
 
 -- a place that the oldest burst was taken to
 abbrev pub taken_to : Option (List (List ℕ)) → List ℕ → List ℕ

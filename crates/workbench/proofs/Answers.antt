@@ -4,10 +4,10 @@ use Rattle.std.proofs.KnownBytes.{Appends-nil, Appends-trans}
 use Rattle.std.specs.Io.KnownBytes.{Appends}
 use Rattle.answers.specs.Asked.{said, left_by}
 use Rattle.answers.specs.Lines.{out_of_memory}
-use Rattle.bench.specs.Runs.{Bench, answered, carried_out, after}
+use Rattle.bench.specs.Runs.{Bench, answered, carried_out}
 use Rattle.workbench.specs.Answers.{Answered, Written, Stepped}
 use Rattle.workbench.specs.declared.lines.TooLong.{TooLong}
-use Rattle.workbench.specs.Lines.{lines, request_of, Taken}
+use Rattle.workbench.specs.Lines.{request_of, Taken}
 
 -- lines that ask for the same have the same answers
 answered-same : (w v : Bench) (line next bytes : List ℕ) → request_of line ≡ request_of next → Answered w line bytes v → Answered w next bytes v

@@ -1,5 +1,5 @@
 -- A line of spaces, or a comment, asks for the same as its first byte, whatever follows. Assumes nothing.
-use Rattle.std.proofs.Common.{◌≡◌, ◌≢◌, ◌⊎◌, ℕ, ◌+◌, ◌<◌, Bool, true, false, cond, not, ◌||◌, eqb, List, [], ◌∷◌, ◌++◌, All, length, take, drop, Some, None, Ok, Err, Option, Result, is_some, option_map, refl, sym, ap, subst, ◌∙◌, arith, one-add, ne_eqb, ⊎_elim, true≢false}
+use Rattle.std.proofs.Common.{◌≡◌, ◌≢◌, ℕ, ◌+◌, ◌<◌, Bool, true, false, cond, not, ◌||◌, eqb, List, [], ◌∷◌, ◌++◌, All, length, take, drop, Some, None, Ok, Err, Option, Result, is_some, option_map, refl, sym, ap, subst, ◌∙◌, arith, one-add, ne_eqb, ⊎_elim, true≢false}
 use Rattle.std.proofs.lemmas.Bool.{cond-true, cond-false, cases_eq}
 use Rattle.std.proofs.lemmas.List.Elements.{All-head, All-tail, All-cons, All-nil}
 use Rattle.std.specs.List.{prefix_len}

@@ -9,6 +9,7 @@ use crate::answering::answer_lines;
 use crate::memory::{bursts, packed_medium};
 use bench::run::Workbench;
 use end_bench::ends::Ends;
+use named_media::chosen::ChosenMedium;
 use named_media::media::{Media, NamedMedium};
 use std::io;
 use std::io::{BufReader, BufWriter, Write};
@@ -20,8 +21,8 @@ fn main(rt: HostRuntime) -> io::Result<()> {
     let mut m_packed = packed_medium(heap)?;
     let mut n_packed = packed_medium(heap)?;
     let media = Media {
-        m: NamedMedium::over(bursts(heap)?, &mut m_packed, bursts(heap)?),
-        n: NamedMedium::over(bursts(heap)?, &mut n_packed, bursts(heap)?),
+        m: NamedMedium::over(ChosenMedium::over(bursts(heap)?, &mut m_packed, bursts(heap)?)),
+        n: NamedMedium::over(ChosenMedium::over(bursts(heap)?, &mut n_packed, bursts(heap)?)),
     };
     let mut bench = Workbench {
         ends: Ends::new(),
