@@ -8,16 +8,13 @@ ghost use Rattle.end_script.specs.Calls.{end_name, line_number};
 ghost use Rattle.end_script.specs.Commands.{name_or, end_open, call_after, end_call};
 ghost use Rattle.end_script.specs.Told.{call_of, command_of};
 
-use notation::number::size;
+use notation::number::byte_number;
 use script_words::arguments::Arguments;
 use script_words::fault::Fault;
 use script_words::words::{Bytes, Kind, is};
 
 // The size of the place that a take is lent where a line leaves it out.
 const PLACE: usize = 96;
-
-// The largest line number.
-const LINES: u32 = 255;
 
 // Not one type with the name of a medium: fault, letters and meaning would all be its parameters.
 #[derive(Clone, Copy, Debug, PartialEq, Eq)]
@@ -89,13 +86,7 @@ fn name_or(words: &mut Arguments<'_>, usual: Name) -> Result<Name, Fault>
 fn line_in(words: &mut Arguments<'_>) -> Result<u8, Fault>
     ensures { told (λ n. n) result words.new.rest.now ≡ argument line_number fault.Line words.old.rest.now }
 {
-    line_of(words.due()?).ok_or(Fault::Line)
-}
-
-fn line_of(word: &[u8]) -> Option<u8>
-    ensures { result ≡ line_number word.now }
-{
-    u8::try_from(size(word, LINES)?).ok()
+    byte_number(words.due()?).ok_or(Fault::Line)
 }
 
 // What the rest of a line that begins `end` asks for.

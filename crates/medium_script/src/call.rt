@@ -1,6 +1,7 @@
 // What is asked of the media of a script.
 ghost use Rattle.std.specs.Prelude.{◌≡◌};
 ghost use Rattle.std.specs.Option.{ok_or};
+ghost use Rattle.notation.specs.Words.{left};
 ghost use Rattle.script_words.specs.Arguments.{argument};
 ghost use Rattle.script_words.specs.Told.{told, asked};
 ghost use Rattle.script_words.specs.declared.fault.Fault.TheVariants as fault;
@@ -73,8 +74,9 @@ fn call_after<'a>(word: &[u8], words: &mut Arguments<'a>) -> Result<MediumCall<'
 }
 
 // Not one generic read of an argument, as at `Arguments::kind`.
-fn spec_in(words: &mut Arguments<'_>) -> Result<Spec, Fault>
-    ensures { told (λ s. s) result words.new.rest.now ≡ argument spec fault.Spec words.old.rest.now }
+pub fn spec_in(words: &mut Arguments<'_>) -> Result<Spec, Fault>
+    ensures value { told (λ s. s) result words.new.rest.now ≡ argument spec fault.Spec words.old.rest.now }
+    ensures after { words.new.rest.now ≡ left words.old.rest.now }
 {
     Spec::try_from(words.due()?)
 }

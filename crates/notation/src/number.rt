@@ -27,6 +27,13 @@ pub fn size(word: &[u8], largest: u32) -> Option<usize>
     (n <= largest as usize).then_some(n)
 }
 
+// The same, of a number from 0 to 255.
+pub fn byte_number(word: &[u8]) -> Option<u8>
+    ensures { result ≡ size 255 word.now }
+{
+    u8::try_from(size(word, 255)?).ok()
+}
+
 // The number of one or more decimal digits, or `most` where it is larger.
 pub fn size_up_to(word: &[u8], most: u32) -> Option<usize>
     ensures { result ≡ size_up_to most word.now }

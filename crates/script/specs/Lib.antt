@@ -1,2 +1,4 @@
 pub mod Commands
+pub mod Line
+pub mod LineTold
 pub mod Told

@@ -38,9 +38,13 @@ argument meaning f line = due line then λ w rest. ok_or (option_map (λ x. (x, 
 abbrev pub kind : List ℕ → Option Kind
 kind w = cond (bytes_eq w (codes "sum")) (Some Sum) (cond (bytes_eq w (codes "xor")) (Some Xor) None)
 
--- pairs of hexadecimal digits, or all that follows an apostrophe
+-- pairs of hexadecimal digits
+abbrev pub pairs : List ℕ → Result (List ℕ × List ℕ) Fault
+pairs line = argument unhex fault.Bytes line
+
+-- the same, or all that follows an apostrophe
 abbrev pub bytes : List ℕ → Result (List ℕ × List ℕ) Fault
-bytes line = cond (slice_index (trimmed line) 0 == 0x27) (Ok (drop 1 (trimmed line), [])) (argument unhex fault.Bytes line)
+bytes line = cond (slice_index (trimmed line) 0 == 0x27) (Ok (drop 1 (trimmed line), [])) (pairs line)
 
 -- what they leave of the line: nothing after an apostrophe
 abbrev pub bytes_left : List ℕ → List ℕ

@@ -3,7 +3,7 @@ ghost use Rattle.std.specs.Prelude.{◌≡◌};
 ghost use Rattle.std.specs.Option.{option_copied, option_map};
 ghost use Rattle.notation.specs.Hex.{unhex};
 ghost use Rattle.notation.specs.Words.{first_word, left};
-ghost use Rattle.script_words.specs.Arguments.{asking, due, argument, kind, bytes, bytes_left, size_or, ended};
+ghost use Rattle.script_words.specs.Arguments.{asking, due, argument, kind, pairs, bytes, bytes_left, size_or, ended};
 ghost use Rattle.script_words.specs.Told.{told, bytes_of};
 ghost use Rattle.script_words.specs.declared.fault.Fault.TheVariants as fault;
 
@@ -68,6 +68,14 @@ impl<'a> Arguments<'a> {
         Kind::try_from(self.due()?)
     }
 
+    // Bytes that are not a line's last argument.
+    pub fn pairs(&mut self) -> Result<Bytes<'a>, Fault>
+        ensures value { told bytes_of result self.new.rest.now ≡ pairs self.old.rest.now }
+        ensures after { self.new.rest.now ≡ left self.old.rest.now }
+    {
+        in_hex(self.due()?).ok_or(Fault::Bytes)
+    }
+
     // Bytes that begin with an apostrophe are all that follows it.
     pub fn bytes(&mut self) -> Result<Bytes<'a>, Fault>
         ensures value { told bytes_of result self.new.rest.now ≡ bytes self.old.rest.now }
@@ -77,7 +85,7 @@ impl<'a> Arguments<'a> {
             self.rest = &[];
             return Ok(Bytes::Text(text));
         }
-        in_hex(self.due()?).ok_or(Fault::Bytes)
+        self.pairs()
     }
 
     // The size of a place, which may be left out.

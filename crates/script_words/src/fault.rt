@@ -16,11 +16,13 @@ pub enum Fault {
     Line,
     MediumName,
     Spec,
+    Side,
     TooManyWords,
     NoEnd,
     NoSlip,
     SlipKept,
     NoMedium,
+    NoLine,
 }
 
 impl fmt::Display for Fault {
@@ -39,11 +41,13 @@ impl fmt::Display for Fault {
             Fault::MediumName => "NAME is m or n",
             Fault::Spec =>
                 "SPEC is queue:PLACES, packed:BYTES or noisy:PLACES:PATTERN, or one of these after lossy:PATTERN/",
+            Fault::Side => "a side is west, east or a number from 0 to 255",
             Fault::TooManyWords => "too many words",
             Fault::NoEnd => "no end of that name is open",
             Fault::NoSlip => "no slip is kept",
             Fault::SlipKept => "a slip is kept",
             Fault::NoMedium => "no medium of that name is made",
+            Fault::NoLine => "no line is open",
         })
     }
 }
