@@ -1,7 +1,7 @@
 -- The answers to a line, and to one line after another. Assumes nothing.
-use Rattle.std.proofs.Common.{◌≡◌, ◌⊎◌, ℕ, List, [], ◌∷◌, ◌++◌, true, Some, Ok, Err, Option, refl, sym, subst, inl, inr}
+use Rattle.std.proofs.Common.{◌≡◌, ◌⊎◌, ℕ, List, [], ◌∷◌, ◌++◌, true, Some, None, Ok, Err, Option, refl, sym, ap, subst, ◌∙◌, inl, inr}
 use Rattle.std.proofs.KnownBytes.{Appends-nil, Appends-trans}
-use Rattle.std.specs.Io.KnownBytes.{Appends}
+use Rattle.std.specs.Io.KnownBytes.{Appends, Keeps}
 use Rattle.answers.specs.Asked.{said, left_by}
 use Rattle.answers.specs.Lines.{out_of_memory}
 use Rattle.bench.specs.Runs.{Bench, answered, carried_out}
@@ -28,6 +28,16 @@ stepped-passed e w script line bytes left old new taken is wrote =
 
 pub written-none : (w v : Bench) (old new : Option (List ℕ)) → new ≡ old → v ≡ w → Written w [] old new v
 written-none w v old new same e = ([], (refl, e), subst (λ o. Appends old o []) (sym same) (Appends-nil old))
+
+-- what is kept is kept at first
+appends-kept : (old mid new : Option (List ℕ)) (bytes : List ℕ) → Keeps old mid → Appends mid new bytes → Appends old new bytes
+appends-kept None mid new bytes k a = tt
+appends-kept (Some xs) None new bytes k a = absurd k
+appends-kept (Some xs) (Some ys) None bytes k a = absurd a
+appends-kept (Some xs) (Some ys) (Some zs) bytes k a = a ∙ ap (λ l. l ++ bytes) k
+
+pub written-kept : (w v : Bench) (lines : List (List ℕ)) (old mid new : Option (List ℕ)) → Keeps old mid → Written w lines mid new v → Written w lines old new v
+written-kept w v lines old mid new k more = (more.0, more.1, appends-kept old mid new more.0 k more.2)
 
 -- one line, and then those after it
 pub written-more : (w u v : Bench) (line bytes : List ℕ) (rest : List (List ℕ)) (old mid new : Option (List ℕ)) → Answered w line bytes u → Appends old mid bytes

@@ -1,9 +1,17 @@
 -- The answers to a script. Assumes nothing.
-use Rattle.std.specs.Prelude.{◌≡◌, ◌⊎◌, ℕ, Bool, true, false, List, [], ◌∷◌, ◌++◌, Some, Option}
+use Rattle.std.specs.Prelude.{◌≡◌, ◌⊎◌, ℕ, Bool, true, false, List, [], ◌∷◌, ◌++◌, Some, Option, ◌==◌}
+use Rattle.std.specs.Io.Buffered.{reader_buffer, writer_buffer}
 use Rattle.std.specs.Io.KnownBytes.{Appends}
+use Rattle.std.specs.List.{list_any}
+use Rattle.std.specs.declared.io.buffered.BufReader.{BufReader}
+use Rattle.std.specs.declared.io.buffered.BufWriter.{BufWriter}
 use Rattle.answers.specs.Lines.{out_of_memory}
 use Rattle.bench.specs.Runs.{Bench, printed, after}
 use Rattle.workbench.specs.Lines.{lines}
+
+-- Where no whole line is at hand, so that the program waits for more input, no answer waits to be written.
+abbrev pub Shown : {R W A B : Type 0} → BufReader R A → BufWriter W B → Type 0
+Shown input output = list_any (λ b. b == 0x0a) (reader_buffer input) ≡ false → writer_buffer output ≡ []
 
 -- A line is answered and carried out. Where memory is wanting for it, it may or may not have been carried out.
 abbrev pub Answered : Bench → List ℕ → List ℕ → Bench → Type 0
