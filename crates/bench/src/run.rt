@@ -5,6 +5,8 @@ ghost use Rattle.script.specs.Told.{request};
 ghost use Rattle.bench.specs.Runs.{answered, carried_out, printed, after};
 ghost use Rattle.bench.specs.Told.{bench_of};
 
+use crate::joined::JoinedLine;
+use crate::joined::running::run_joined;
 use answers::print::wrong;
 use end_answers::printed_settings::run_settings;
 use end_bench::ends::Ends;
@@ -19,6 +21,7 @@ use std::alloc::{AllocError, Global};
 pub struct Workbench<'a, 'p> {
     pub ends: Ends,
     pub media: Media<'a, 'p>,
+    pub joined: JoinedLine<'a, 'p>,
 }
 
 // What is printed for a line, with or without its end: no bytes where nothing is asked.
@@ -51,5 +54,6 @@ fn run(
         Command::Settings(frame) => run_settings(heap, frame),
         Command::End(command) => run_end(heap, &mut bench.ends, command),
         Command::Medium(command) => medium_bench::run::run(heap, &mut bench.media, command),
+        Command::Line(command) => run_joined(heap, &mut bench.joined, command),
     }
 }

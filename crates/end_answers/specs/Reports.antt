@@ -22,18 +22,29 @@ started_text t = timer_text t.0 ++ (codes ":" ++ decimal t.1)
 abbrev pub tally : Told → Tally
 tally t = record { arrived = t.arrivals; given_up = t.give_ups; no_connection = t.no_connections }
 
--- `sent=E burst=024503C8 timer=enq:200 outcomes=0,0,0`, with the burst that was sent
+-- `sent=E burst=024503C8`, with the burst that was sent
+abbrev pub sent_text : Told → List ℕ → List ℕ
+sent_text t b = codes "sent=" ++ (letter_text (option_map (λ p. p.0) t.sent) ++ (codes " burst=" ++ hex b))
+
+-- `timer=enq:200 outcomes=0,0,0`
+abbrev pub rest_text : Told → List ℕ
+rest_text t = codes "timer=" ++ (text_or_none started_text t.timer ++ (codes " outcomes=" ++ tally_text (tally t)))
+
+-- `sent=E burst=024503C8 timer=enq:200 outcomes=0,0,0`
 abbrev pub report : Told → List ℕ → List ℕ
-report t b =
-    codes "sent=" ++ (letter_text (option_map (λ p. p.0) t.sent) ++ (codes " burst=" ++ (hex b ++ (codes " timer=" ++ (text_or_none started_text t.timer ++ (codes " outcomes=" ++ (tally_text (tally t) ++ end)))))))
+report t b = sent_text t b ++ (codes " " ++ (rest_text t ++ end))
 
 abbrev pub sent_length : Told → ℕ
 sent_length t = unwrap_or (option_map (λ p. p.1) t.sent) 0
 
--- what a call answers, behind a word; the burst that was sent lies at the front of its place
+-- the burst that was sent, at the front of its place
+abbrev pub placed_burst : Told → List ℕ → List ℕ
+placed_burst t place = take (sent_length t) place
+
+-- what a call answers, behind a word
 abbrev pub told_line : List ℕ → Answer Told → List ℕ → List ℕ
 told_line word (refused n) place = refusal n
-told_line word (gave t) place = word ++ report t (take (sent_length t) place)
+told_line word (gave t) place = word ++ report t (placed_burst t place)
 
 -- what a call does, behind a word, by the check bytes of a kind
 abbrev pub done_line : (List ℕ → List ℕ) → List ℕ → Answer Done → List ℕ

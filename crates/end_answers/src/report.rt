@@ -5,7 +5,7 @@ ghost use Rattle.packet.specs.Bytes.{byte_of};
 ghost use Rattle.packet.specs.Refusals.{answer, gave};
 ghost use Rattle.station.specs.Reports.{packet_sent, told};
 ghost use Rattle.answers.specs.Lines.{text_or_none};
-ghost use Rattle.end_answers.specs.Reports.{letter_text, started_text, told_line};
+ghost use Rattle.end_answers.specs.Reports.{letter_text, started_text, placed_burst, sent_text, rest_text, told_line};
 
 use answers::print::{OrNone, refused};
 use notation::hex::Hex;
@@ -76,6 +76,37 @@ fn sent_burst<'a>(sent: Option<Sent>, place: &'a [u8; PLACE]) -> &'a [u8]
     &place[..length.min(PLACE)]
 }
 
+// The packet that was sent, from the front of the place.
+#[derive(Clone, Copy)]
+pub struct PlacedPacket<'a> {
+    pub report: Report,
+    pub place: &'a [u8; PLACE],
+}
+
+impl<'a> fmt::Display for PlacedPacket<'a> {
+    ghost output = { λ packet. Some (sent_text (told packet.report) (placed_burst (told packet.report) packet.place.now)) };
+
+    fn fmt<W: fmt::Write>(&self, f: &mut fmt::Formatter<W>) -> fmt::Result {
+        let letter = letter_of(self.report.sent);
+        let burst = Hex::of(sent_burst(self.report.sent, self.place));
+        write!(f, "sent={letter} burst={burst}")
+    }
+}
+
+// The timer that was started, and the outcomes.
+#[derive(Clone, Copy)]
+pub struct TimerAndOutcomes(pub Report);
+
+impl fmt::Display for TimerAndOutcomes {
+    ghost output = { λ rest. Some (rest_text (told rest.0)) };
+
+    fn fmt<W: fmt::Write>(&self, f: &mut fmt::Formatter<W>) -> fmt::Result {
+        let timer = timer_of(self.0.timer);
+        let tally = self.0.tally;
+        write!(f, "timer={timer} outcomes={tally}")
+    }
+}
+
 // A report behind a word, with the burst that lies at the front of the place.
 fn report_line(
     heap: Global,
@@ -85,11 +116,9 @@ fn report_line(
 ) -> Result<String, AllocError>
     ensures { IfOk result (λ s. string_bytes s ≡ told_line word.now (gave (told report)) place.now) }
 {
-    let letter = letter_of(report.sent);
-    let burst = Hex::of(sent_burst(report.sent, place));
-    let timer = timer_of(report.timer);
-    let tally = report.tally;
-    format!(in heap; "{word}sent={letter} burst={burst} timer={timer} outcomes={tally}\n")
+    let packet = PlacedPacket { report, place };
+    let rest = TimerAndOutcomes(report);
+    format!(in heap; "{word}{packet} {rest}\n")
 }
 
 // What a call answered, behind a word where it is not refused. The call was lent the place.

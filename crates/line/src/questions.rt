@@ -16,8 +16,8 @@ use station::end::End;
 use station::report::Holding;
 
 impl<K: Check> Line<K> {
-    /// The end at the side of this number.
-    fn end(&self, side: u8) -> Result<&End<K>, Refusal>
+    /// The end at the side of this number, to be asked. Refused with 25.
+    pub fn end(&self, side: u8) -> Result<&End<K>, Refusal>
         ensures { answer (λ e. model e.now) result ≡ end_asked (side_answer side) self.now }
     {
         match Side::try_from(side)? {

@@ -9,25 +9,24 @@ use Rattle.end_script.specs.Calls as ends
 use Rattle.end_script.specs.Commands.{end_call, settings_call}
 use Rattle.medium_script.specs.Calls as media
 use Rattle.packet_script.specs.Calls as packets
+use Rattle.script.specs.Line as lines
 
 pub data Request : Type 0 where
   packet : packets.Call → Request
   settings : List ℕ → Request
   end : ends.Command → Request
   medium : media.Command → Request
+  the_line : lines.Command → Request
 
 -- by the word that names the subject
-abbrev pub station_call_after : List ℕ → List ℕ → Result Request Fault
-station_call_after subject rest =
-    cond (bytes_eq subject (codes "settings")) (asked settings (settings_call rest))
-    (cond (bytes_eq subject (codes "end")) (asked end (end_call rest))
-    (Err UnknownCommand))
-
 abbrev pub call_after : List ℕ → List ℕ → Result Request Fault
 call_after subject rest =
     cond (bytes_eq subject (codes "packet")) (asked packet (packets.packet_call rest))
     (cond (bytes_eq subject (codes "medium")) (asked medium (media.medium_call rest))
-    (station_call_after subject rest))
+    (cond (bytes_eq subject (codes "settings")) (asked settings (settings_call rest))
+    (cond (bytes_eq subject (codes "end")) (asked end (end_call rest))
+    (cond (bytes_eq subject (codes "line")) (asked the_line (lines.line_call rest))
+    (Err UnknownCommand)))))
 
 -- what a line asks for, if it asks for anything
 abbrev pub command_of : List ℕ → Result (Option Request) Fault

@@ -2,16 +2,17 @@
 ghost use Rattle.std.specs.Prelude.{◌≡◌};
 ghost use Rattle.std.specs.Option.{option_map};
 ghost use Rattle.script_words.specs.Told.{asked};
-ghost use Rattle.script.specs.Commands.{call_after, command_of, station_call_after};
+ghost use Rattle.script.specs.Commands.{call_after, command_of};
 ghost use Rattle.script.specs.Told.{request};
 
+use crate::line::{LineCommand, parse_line};
 use end_script::end::{EndCommand, parse_end};
 use end_script::settings::parse_settings;
 use medium_script::call::MediumCommand;
 use packet_script::call::PacketCall;
 use script_words::arguments::Arguments;
 use script_words::fault::Fault;
-use script_words::words::Bytes;
+use script_words::words::{Bytes, is};
 
 #[derive(Clone, Copy)]
 pub enum Command<'a> {
@@ -20,6 +21,7 @@ pub enum Command<'a> {
     Settings(Bytes<'a>),
     End(EndCommand<'a>),
     Medium(MediumCommand<'a>),
+    Line(LineCommand<'a>),
 }
 
 // What a line, without its end, asks for, if it asks for anything.
@@ -37,20 +39,17 @@ pub fn parse(line: &[u8]) -> Result<Option<Command<'_>>, Fault>
 fn parse_after<'a>(subject: &[u8], words: Arguments<'a>) -> Result<Command<'a>, Fault>
     ensures { asked request result ≡ call_after subject.now words.entry.rest.now }
 {
-    match subject {
-        b"packet" => Ok(Command::Packet(packet_script::call::parse(words)?)),
-        b"medium" => Ok(Command::Medium(medium_script::call::parse(words)?)),
-        _ => parse_station(subject, words),
-    }
-}
-
-// The same of what a station has: settings, and its end.
-fn parse_station<'a>(subject: &[u8], words: Arguments<'a>) -> Result<Command<'a>, Fault>
-    ensures { asked request result ≡ station_call_after subject.now words.entry.rest.now }
-{
-    match subject {
-        b"settings" => Ok(Command::Settings(parse_settings(words)?)),
-        b"end" => Ok(Command::End(parse_end(words)?)),
-        _ => Err(Fault::UnknownCommand),
+    if is(subject, "packet") {
+        Ok(Command::Packet(packet_script::call::parse(words)?))
+    } else if is(subject, "medium") {
+        Ok(Command::Medium(medium_script::call::parse(words)?))
+    } else if is(subject, "settings") {
+        Ok(Command::Settings(parse_settings(words)?))
+    } else if is(subject, "end") {
+        Ok(Command::End(parse_end(words)?))
+    } else if is(subject, "line") {
+        Ok(Command::Line(parse_line(words)?))
+    } else {
+        Err(Fault::UnknownCommand)
     }
 }

@@ -52,6 +52,30 @@ fn medium_faults_are_told(rt: HostRuntime) -> Result<(), AllocError> {
 }
 
 #[test]
+fn line_faults_are_told(rt: HostRuntime) -> Result<(), AllocError> {
+    for (line, want) in [
+        ("line", "too few words"),
+        ("line leave north", "unknown command"),
+        (
+            "line state north x",
+            "a side is west, east or a number from 0 to 255",
+        ),
+        (
+            "line arrive 256",
+            "a side is west, east or a number from 0 to 255",
+        ),
+        ("line open sum - 'OK", "BYTES are pairs of hexadecimal digits"),
+        ("line open sum - - queue:1", "too few words"),
+        ("line read west 96 x", "too many words"),
+        ("line submit 255 'OK", ""),
+    ] {
+        let told = fault(rt.alloc(), line)?;
+        assert_eq!(rt; told.as_str(), want, "at {line}");
+    }
+    Ok(())
+}
+
+#[test]
 fn end_and_settings_faults_are_told(rt: HostRuntime) -> Result<(), AllocError> {
     for (line, want) in [
         ("settings write 01", "unknown command"),

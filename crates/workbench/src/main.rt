@@ -7,6 +7,7 @@ mod memory;
 
 use crate::answering::answer_lines;
 use crate::memory::{bursts, packed_medium};
+use bench::joined::{JoinedLine, Ways};
 use bench::run::Workbench;
 use end_bench::ends::Ends;
 use named_media::chosen::ChosenMedium;
@@ -20,17 +21,28 @@ fn main(rt: HostRuntime) -> io::Result<()> {
     let mut output = BufWriter::new(heap, rt.stdout())?;
     let mut m_packed = packed_medium(heap)?;
     let mut n_packed = packed_medium(heap)?;
+    let mut eastward_packed = packed_medium(heap)?;
+    let mut westward_packed = packed_medium(heap)?;
     let media = Media {
         m: NamedMedium::over(ChosenMedium::over(bursts(heap)?, &mut m_packed, bursts(heap)?)),
         n: NamedMedium::over(ChosenMedium::over(bursts(heap)?, &mut n_packed, bursts(heap)?)),
     };
+    let ways = Ways {
+        eastward: ChosenMedium::over(bursts(heap)?, &mut eastward_packed, bursts(heap)?),
+        westward: ChosenMedium::over(bursts(heap)?, &mut westward_packed, bursts(heap)?),
+    };
     let mut bench = Workbench {
         ends: Ends::new(),
         media,
+        joined: JoinedLine { line: None, ways },
     };
     let done = answer_lines(heap, &mut input, &mut output, &mut bench);
     // Slips that are kept go back, also where the output failed.
-    let Workbench { ends, media: _ } = bench;
+    let Workbench {
+        ends,
+        media: _,
+        joined: _,
+    } = bench;
     let _ends = ends.close();
     done?;
     output.flush()

@@ -1,0 +1,2 @@
+mod LineOpenings
+mod LineSteps
