@@ -19,11 +19,11 @@ use Rattle.agreement.specs.Calls.{burst_of}
 use Rattle.agreement.specs.Opening.{done_at, opening, sent_at_opening}
 use Rattle.line.specs.declared.report.Opened.{Opened}
 use Rattle.line.specs.Opened.{SideOpened, report_at, offer_at}
-use Rattle.bench.specs.Joined.{Way, passed, offer_of}
+use Rattle.bench.specs.Joined.{Medium, passed, offer_of}
 use Rattle.bench.specs.LineAnswers.{line_report}
-use Rattle.bench.specs.LineModels.{way_of, ends_of, opening_over}
-use Rattle.bench.specs.LineRuns.{begun_way, opening_line, ends_opened}
-use Rattle.bench.specs.declared.joined.Ways.{Ways}
+use Rattle.bench.specs.LineModels.{medium_of, ends_of, opening_over}
+use Rattle.bench.specs.LineRuns.{begun_medium, opening_line, ends_opened}
+use Rattle.bench.specs.declared.joined.LineMedia.{LineMedia}
 use Rattle.bench.specs.LineTold.{placed_report, opened_told}
 use Rattle.bench.proofs.LineSteps.{ghosts, passed_on, offer_is, same_told}
 
@@ -36,11 +36,11 @@ same_end e = cc
 -- at one side
 module _ {K : Type 0} {k : check.Ghosts K} (s : Side) (out out' : ChosenMedium) (place place' : List ℕ) where
   pub way_opened : (a : Answer (Done × Done)) (r : Result (Opened K k) Refusal) → SideOpened k ghosts s a r out out' place place'
-      → way_of out' ≡ passed (burst_of k.meaning (sent_at_opening s a)) (way_of out)
+      → medium_of out' ≡ passed (burst_of k.meaning (sent_at_opening s a)) (medium_of out)
   way_opened a r h = passed_on _ (offer_at s r) out out' h.once
 
   report_opened : (d : Done × Done) (x : Opened K k) → SideOpened k ghosts s (gave d) (Ok x) out out' place place'
-      → placed_report (report_at s x) place' ≡ line_report (telling k.meaning (done_at s d)) (burst k.meaning (done_at s d).sent) (offer_of (burst_of k.meaning (done_at s d).sent) (way_of out))
+      → placed_report (report_at s x) place' ≡ line_report (telling k.meaning (done_at s d)) (burst k.meaning (done_at s d).sent) (offer_of (burst_of k.meaning (done_at s d).sent) (medium_of out))
   report_opened d x h =
       let t = same_told h.told in
       let b = (λ i. placed_burst (t i) (h.placed i)) ∙ placed_back k.meaning (done_at s d) (drop (length (burst k.meaning (done_at s d).sent)) place) in
@@ -49,7 +49,7 @@ module _ {K : Type 0} {k : check.Ghosts K} (s : Side) (out out' : ChosenMedium) 
 -- at both
 module _ {K : Type 0} {k : check.Ghosts K} (e e' w w' : ChosenMedium) (pw pw' pe pe' : List ℕ) where
   pub ok_printed : (a : Answer (Done × Done)) (x : Opened K k) → SideOpened k ghosts West a (Ok x) e e' pw pw' → SideOpened k ghosts East a (Ok x) w w' pe pe'
-      → opened_told x.west pw' x.east pe' ≡ opening_line k.meaning a (way_of e) (way_of w)
+      → opened_told x.west pw' x.east pe' ≡ opening_line k.meaning a (medium_of e) (medium_of w)
   ok_printed (refused n) x h i = never n _ (sym h.told)
   ok_printed (gave d) x h i =
       let west = report_opened West e e' pw pw' d x h in
@@ -63,7 +63,7 @@ module _ {K : Type 0} {k : check.Ghosts K} (e e' w w' : ChosenMedium) (pw pw' pe
 
 -- a refusal, as told at west
 module _ {K : Type 0} {k : check.Ghosts K} (e e' : ChosenMedium) (place place' : List ℕ) where
-  pub err_printed : (westward : Way) (a : Answer (Done × Done)) (why : Refusal) → SideOpened {K = K} k ghosts West a (Err why) e e' place place' → refusal (number_of why) ≡ opening_line k.meaning a (way_of e) westward
+  pub err_printed : (westward : Medium) (a : Answer (Done × Done)) (why : Refusal) → SideOpened {K = K} k ghosts West a (Err why) e e' place place' → refusal (number_of why) ≡ opening_line k.meaning a (medium_of e) westward
   err_printed westward (refused n) why h = ap refusal (same_number h.told)
   err_printed westward (gave d) why h = never _ _ h.told
 
@@ -72,18 +72,18 @@ module _ {K : Type 0} {k : check.Ghosts K} (e e' : ChosenMedium) (place place' :
   err_ends (gave d) why h = never _ _ h.told
 
 -- media that were begun anew
-pub begun_is : (s : Spec) (m m' : ChosenMedium) → carrier m' ≡ begun s (memory m) → memory m' ≡ memory m → way_of m' ≡ begun_way s (way_of m)
+pub begun_is : (s : Spec) (m m' : ChosenMedium) → carrier m' ≡ begun s (memory m) → memory m' ≡ memory m → medium_of m' ≡ begun_medium s (medium_of m)
 begun_is s m m' c k = λ i. record { carrier = c i; memory = k i }
 
-module _ (check : List ℕ → List ℕ) (w e : List ℕ) (ways : Ways) (s t : Spec) (x y : Way) (p : way_of ways.eastward ≡ begun_way s x) (q : way_of ways.westward ≡ begun_way t y) where
-  pub opening_begun : opening_over w e ways ≡ opening w e [] []
+module _ (check : List ℕ → List ℕ) (w e : List ℕ) (media : LineMedia) (s t : Spec) (x y : Medium) (p : medium_of media.eastward ≡ begun_medium s x) (q : medium_of media.westward ≡ begun_medium t y) where
+  pub opening_begun : opening_over w e media ≡ opening w e [] []
   opening_begun = λ i. opening w e (p i).carrier.bursts (q i).carrier.bursts
 
-  pub printed_begun : opening_line check (opening_over w e ways) (way_of ways.eastward) (way_of ways.westward) ≡ opening_line check (opening w e [] []) (begun_way s x) (begun_way t y)
+  pub printed_begun : opening_line check (opening_over w e media) (medium_of media.eastward) (medium_of media.westward) ≡ opening_line check (opening w e [] []) (begun_medium s x) (begun_medium t y)
   printed_begun = λ i. opening_line check (opening_begun i) (p i) (q i)
 
-  pub passed_east : passed (burst_of check (sent_at_opening West (opening_over w e ways))) (way_of ways.eastward) ≡ passed (burst_of check (sent_at_opening West (opening w e [] []))) (begun_way s x)
+  pub passed_east : passed (burst_of check (sent_at_opening West (opening_over w e media))) (medium_of media.eastward) ≡ passed (burst_of check (sent_at_opening West (opening w e [] []))) (begun_medium s x)
   passed_east = λ i. passed (burst_of check (sent_at_opening West (opening_begun i))) (p i)
 
-  pub passed_west : passed (burst_of check (sent_at_opening East (opening_over w e ways))) (way_of ways.westward) ≡ passed (burst_of check (sent_at_opening East (opening w e [] []))) (begun_way t y)
+  pub passed_west : passed (burst_of check (sent_at_opening East (opening_over w e media))) (medium_of media.westward) ≡ passed (burst_of check (sent_at_opening East (opening w e [] []))) (begun_medium t y)
   passed_west = λ i. passed (burst_of check (sent_at_opening East (opening_begun i))) (q i)

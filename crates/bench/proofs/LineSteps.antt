@@ -21,41 +21,41 @@ use Rattle.line.specs.declared.report.LineReport.{LineReport}
 use Rattle.line.specs.Called.{Called, Stand, seen_over, sent_at, front, front_at}
 use Rattle.line.specs.Media.{OfferedOnce, TakenOnce, Incoming, Exactly}
 use Rattle.line.specs.Models.{said, offer_told}
-use Rattle.bench.specs.Joined.{Open, open_over, passed, offer_of, heard, way_out, after_call, sends}
+use Rattle.bench.specs.Joined.{Open, open_over, passed, offer_of, heard, medium_out, after_call, sends}
 use Rattle.bench.specs.LineAnswers.{said_line, printed_call}
-use Rattle.bench.specs.LineModels.{way_of, open_of}
+use Rattle.bench.specs.LineModels.{medium_of, open_of}
 use Rattle.bench.specs.LineTold.{burst_in}
 
 abbrev pub ghosts : medium.Ghosts ChosenMedium
 ghosts = record { bursts = bursts; offers = Offers; takes = Takes }
 
-pub passed_on : (b : Option Burst) (o : Option Offer) (m m' : ChosenMedium) → OfferedOnce ghosts b o m m' → way_of m' ≡ passed b (way_of m)
-passed_on None None m m' h = ap way_of h
+pub passed_on : (b : Option Burst) (o : Option Offer) (m m' : ChosenMedium) → OfferedOnce ghosts b o m m' → medium_of m' ≡ passed b (medium_of m)
+passed_on None None m m' h = ap medium_of h
 passed_on None (Some o) m m' h = absurd h
 passed_on (Some b) None m m' h = absurd h
 passed_on (Some b) (Some o) m m' h = λ i. record { carrier = h.after i; memory = h.memory i }
 
-pub offer_is : (b : Option Burst) (o : Option Offer) (m m' : ChosenMedium) → OfferedOnce ghosts b o m m' → o ≡ offer_of b (way_of m)
+pub offer_is : (b : Option Burst) (o : Option Offer) (m m' : ChosenMedium) → OfferedOnce ghosts b o m m' → o ≡ offer_of b (medium_of m)
 offer_is None None m m' h = refl
 offer_is None (Some o) m m' h = absurd h
 offer_is (Some b) None m m' h = absurd h
 offer_is (Some b) (Some o) m m' h = ap Some h.answer
 
-taken_from : (bs : List Burst) (m m' : ChosenMedium) → bs ≡ bursts m → TakenOnce ghosts bs m m' → way_of m' ≡ heard Arrive (way_of m)
+taken_from : (bs : List Burst) (m m' : ChosenMedium) → bs ≡ bursts m → TakenOnce ghosts bs m m' → medium_of m' ≡ heard Arrive (medium_of m)
 taken_from [] m m' e h =
-    ap way_of h ∙ (λ i. record { carrier = carrier_of (way_of m).carrier.base (way_of m).carrier.loss (way_of m).carrier.offers (none i); memory = (way_of m).memory })
+    ap medium_of h ∙ (λ i. record { carrier = carrier_of (medium_of m).carrier.base (medium_of m).carrier.loss (medium_of m).carrier.offers (none i); memory = (medium_of m).memory })
   where
-    none : bursts m ≡ (taken (way_of m).carrier).bursts
+    none : bursts m ≡ (taken (medium_of m).carrier).bursts
     none = sym e ∙ ap (λ (xs : List Burst). drop 1 xs) e
 taken_from (b ∷ bs) m m' e h = λ i. record { carrier = h.after i; memory = h.memory i }
 
-heard_from : (k : Call) (m m' : ChosenMedium) → Incoming ghosts k m m' → way_of m' ≡ heard k (way_of m)
-heard_from (Submit x) m m' h = ap way_of h
+heard_from : (k : Call) (m m' : ChosenMedium) → Incoming ghosts k m m' → medium_of m' ≡ heard k (medium_of m)
+heard_from (Submit x) m m' h = ap medium_of h
 heard_from Arrive m m' h = taken_from (bursts m) m m' refl h
-heard_from Expire m m' h = ap way_of h
-heard_from (ReadOut n) m m' h = ap way_of h
-heard_from Collect m m' h = ap way_of h
-heard_from (Set f) m m' h = ap way_of h
+heard_from Expire m m' h = ap medium_of h
+heard_from (ReadOut n) m m' h = ap medium_of h
+heard_from Collect m m' h = ap medium_of h
+heard_from (Set f) m m' h = ap medium_of h
 
 module _ {K : Type 0} {k : check.Ghosts K} (call : Call) (a : Answer Said) (o : Option Offer) (old new : Stand K ChosenMedium ChosenMedium k) where
   abbrev opened : Stand K ChosenMedium ChosenMedium k → Open
@@ -64,7 +64,7 @@ module _ {K : Type 0} {k : check.Ghosts K} (call : Call) (a : Answer Said) (o : 
   left_at : (s : Answer Side) → TurnAt k.LEN k.meaning s call (seen_over ghosts ghosts old) a o (seen_over ghosts ghosts new)
       → Exactly ghosts ghosts s call (sent_at k.LEN k.meaning s call (seen_over ghosts ghosts old)) o old.eastward new.eastward old.westward new.westward
       → opened new ≡ after_call k.LEN k.meaning s call (opened old)
-  left_at (refused n) t x = λ i. open_over (t.same i).west_end (t.same i).east_end (way_of (x.0 i)) (way_of (x.1 i))
+  left_at (refused n) t x = λ i. open_over (t.same i).west_end (t.same i).east_end (medium_of (x.0 i)) (medium_of (x.1 i))
   left_at (gave West) t x = λ i. open_over (t.near i) (t.far i) (passed_on _ o old.eastward new.eastward x.0 i) (heard_from call old.westward new.westward x.1 i)
   left_at (gave East) t x = λ i. open_over (t.far i) (t.near i) (heard_from call old.eastward new.eastward x.0 i) (passed_on _ o old.westward new.westward x.1 i)
 
@@ -72,7 +72,7 @@ module _ {K : Type 0} {k : check.Ghosts K} (call : Call) (a : Answer Said) (o : 
   left n h = left_at (side_answer n) h.step h.exact
 
   offered_at : (s : Side) → Exactly ghosts ghosts (gave s) call (sent_at k.LEN k.meaning (gave s) call (seen_over ghosts ghosts old)) o old.eastward new.eastward old.westward new.westward
-      → o ≡ offer_of (sends k.LEN k.meaning s call (opened old)) (way_out s (opened old))
+      → o ≡ offer_of (sends k.LEN k.meaning s call (opened old)) (medium_out s (opened old))
   offered_at West x = offer_is _ o old.eastward new.eastward x.0
   offered_at East x = offer_is _ o old.westward new.westward x.1
 
@@ -82,7 +82,7 @@ module _ {K : Type 0} {k : check.Ghosts K} (call : Call) (a : Answer Said) (o : 
   answered_at silent (refused n) t = ap (said_line [] None) t.answer
   answered_at silent (gave s) t =
       ap (said_line [] None) t.answer
-      ∙ ap (λ (p : Option (ℕ × List ℕ)). said_line (burst k.meaning p) (offer_of (burst_of k.meaning p) (way_out s (opened old))) (acted k.LEN k.meaning s call (seen_over ghosts ghosts old)).answer) (sym (silent s))
+      ∙ ap (λ (p : Option (ℕ × List ℕ)). said_line (burst k.meaning p) (offer_of (burst_of k.meaning p) (medium_out s (opened old))) (acted k.LEN k.meaning s call (seen_over ghosts ghosts old)).answer) (sym (silent s))
 
   pub answered : (n : ℕ) → ((s : Side) → (acted k.LEN k.meaning s call (seen_over ghosts ghosts old)).sent ≡ None) → Called k ghosts ghosts n call a o old new
       → said_line [] None a ≡ printed_call k.LEN k.meaning (side_answer n) call (opened old)
@@ -116,7 +116,7 @@ module _ {K : Type 0} {k : check.Ghosts K} (call : Call) (res : Result LineRepor
         → said_line (burst_in res new.place) (offer_told res) (said res) ≡ printed_call k.LEN k.meaning s call (opened call (said res) (offer_told res) old new old)
     reported_at (refused n) t e p = ap (said_line (burst_in res new.place) (offer_told res)) t.answer
     reported_at (gave s) t e p =
-        let o = offer_of (burst_of k.meaning (does s).sent) (way_out s (opened call (said res) (offer_told res) old new old)) in
+        let o = offer_of (burst_of k.meaning (does s).sent) (medium_out s (opened call (said res) (offer_told res) old new old)) in
         let a = t.answer ∙ answers s in
         ap (λ (o : Option Offer). said_line (burst_in res new.place) o (said res)) (offered_at call (said res) (offer_told res) old new s e)
         ∙ ap (said_line (burst_in res new.place) o) a

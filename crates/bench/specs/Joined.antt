@@ -14,7 +14,7 @@ use Rattle.agreement.specs.Calls.{Call, Submit, Arrive, Expire, ReadOut, Collect
 use Rattle.script.specs.Line as lines
 
 -- a medium in one direction, and its memory
-pub record Way : Type 0 where
+pub record Medium : Type 0 where
   pub carrier : Carrier
   pub memory : Memory
 
@@ -22,36 +22,36 @@ pub record Way : Type 0 where
 pub record Open : Type 0 where
   pub west : End
   pub east : End
-  pub eastward : Way
-  pub westward : Way
+  pub eastward : Medium
+  pub westward : Medium
 
 -- what there is of a line: its kind and its ends, where it is open, and the media
 pub record Joined : Type 0 where
   pub ends : Option (Kind × End × End)
-  pub eastward : Way
-  pub westward : Way
+  pub eastward : Medium
+  pub westward : Medium
 
-abbrev pub open_over : End → End → Way → Way → Open
+abbrev pub open_over : End → End → Medium → Medium → Open
 open_over w e x y = record { west = w; east = e; eastward = x; westward = y }
 
 -- its ends with the bursts under way
 abbrev pub line_of : Open → Line
 line_of o = record { west_end = o.west; east_end = o.east; eastward = o.eastward.carrier.bursts; westward = o.westward.carrier.bursts }
 
-abbrev pub with_carrier : Carrier → Way → Way
+abbrev pub with_carrier : Carrier → Medium → Medium
 with_carrier c w = record { carrier = c; memory = w.memory }
 
 -- a medium that is offered what was sent, if anything was
-abbrev pub passed : Option Burst → Way → Way
+abbrev pub passed : Option Burst → Medium → Medium
 passed None w = w
 passed (Some b) w = with_carrier (offered b w.carrier) w
 
 -- what it answers
-abbrev pub offer_of : Option Burst → Way → Option Offer
+abbrev pub offer_of : Option Burst → Medium → Option Offer
 offer_of b w = option_map (λ b. whole_if (goes_whole b w.carrier)) b
 
 -- the medium toward a side, from which only an arrival takes
-abbrev pub heard : Call → Way → Way
+abbrev pub heard : Call → Medium → Medium
 heard (Submit m) w = w
 heard Arrive w = with_carrier (taken w.carrier) w
 heard Expire w = w
@@ -60,9 +60,9 @@ heard Collect w = w
 heard (Set f) w = w
 
 -- the medium out of a side
-abbrev pub way_out : Side → Open → Way
-way_out West o = o.eastward
-way_out East o = o.westward
+abbrev pub medium_out : Side → Open → Medium
+medium_out West o = o.eastward
+medium_out East o = o.westward
 
 -- by a kind with c check bytes
 module _ (c : ℕ) (check : List ℕ → List ℕ) where

@@ -12,9 +12,9 @@ use Rattle.end_answers.specs.States.{state_line}
 use Rattle.agreement.specs.declared.sides.Side.{Side}
 use Rattle.agreement.specs.declared.sides.Side.TheVariants.{West, East}
 use Rattle.agreement.specs.Line.{side_answer}
-use Rattle.agreement.specs.Calls.{Call, Submit, Arrive, Expire, ReadOut, Collect, Set, Said, reported, read, collected, settled}
+use Rattle.agreement.specs.Calls.{Call, Submit, Arrive, Expire, ReadOut, Collect, Set, Said, reported, read, collected, adopted}
 use Rattle.script.specs.Line as lines
-use Rattle.bench.specs.Joined.{Open, offer_of, way_out, did, sends}
+use Rattle.bench.specs.Joined.{Open, offer_of, medium_out, did, sends}
 
 -- `sent=E burst=024503C8 offer=whole timer=enq:200 outcomes=0,0,0`, with the burst that was sent
 abbrev pub line_report : Told → List ℕ → Option Offer → List ℕ
@@ -30,7 +30,7 @@ said_line b o (refused n) = refusal n
 said_line b o (gave (reported letter t)) = line_report t b o ++ end
 said_line b o (gave (read m)) = message_line m
 said_line b o (gave (collected n)) = outcome_line (gave n)
-said_line b o (gave settled) = codes "set" ++ end
+said_line b o (gave adopted) = codes "set" ++ end
 
 -- the state of a side, as of an end
 abbrev pub state_at : Answer Side → End → End → List ℕ
@@ -42,7 +42,7 @@ state_at (gave East) w e = state_line e
 module _ (c : ℕ) (check : List ℕ → List ℕ) where
   abbrev pub printed_call : Answer Side → Call → Open → List ℕ
   printed_call (refused n) k o = refusal n
-  printed_call (gave s) k o = said_line (burst check (did c check s k o).sent) (offer_of (sends c check s k o) (way_out s o)) (did c check s k o).answer
+  printed_call (gave s) k o = said_line (burst check (did c check s k o).sent) (offer_of (sends c check s k o) (medium_out s o)) (did c check s k o).answer
 
   abbrev pub printed_asked : ℕ → lines.Call → Open → List ℕ
   printed_asked n (lines.submit m) o = printed_call (side_answer n) (Submit m) o

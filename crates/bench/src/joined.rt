@@ -6,7 +6,7 @@ use packet::xor::Xor;
 
 // The media from west to east and from east to west.
 #[derive(Drop)]
-pub struct Ways<'a, 'p> {
+pub struct LineMedia<'a, 'p> {
     pub eastward: ChosenMedium<'a, 'p>,
     pub westward: ChosenMedium<'a, 'p>,
 }
@@ -21,7 +21,7 @@ pub enum OpenLine {
 #[derive(Drop)]
 pub struct JoinedLine<'a, 'p> {
     pub line: Option<OpenLine>,
-    pub ways: Ways<'a, 'p>,
+    pub media: LineMedia<'a, 'p>,
 }
 
 pub mod running;

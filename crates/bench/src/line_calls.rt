@@ -8,10 +8,10 @@ ghost use Rattle.agreement.specs.Calls.{Submit, Expire, Arrive, ReadOut, Collect
 ghost use Rattle.agreement.specs.Opening.{sent_at_opening};
 ghost use Rattle.bench.specs.Joined.{after_call, passed};
 ghost use Rattle.bench.specs.LineAnswers.{printed_call, state_at};
-ghost use Rattle.bench.specs.LineModels.{way_of, ends_of, open_of, opening_over};
+ghost use Rattle.bench.specs.LineModels.{medium_of, ends_of, open_of, opening_over};
 ghost use Rattle.bench.specs.LineRuns.{opening_line, ends_opened};
 
-use crate::joined::Ways;
+use crate::joined::LineMedia;
 use crate::line_answers::{PlacedReport, message, opened, reported};
 use answers::print::refused;
 use answers::values::FILL;
@@ -23,19 +23,19 @@ use std::alloc::{AllocError, Global};
 pub(crate) fn submit<K: Check>(
     heap: Global,
     line: &mut Line<K>,
-    ways: &mut Ways<'_, '_>,
+    media: &mut LineMedia<'_, '_>,
     side: u8,
     message: &[u8],
 ) -> Result<String, AllocError>
-    ensures printed { IfOk result (λ s. string_bytes s ≡ printed_call K.Check.LEN K.Check.meaning (side_answer side) (Submit message.now) (open_of line.old ways.old)) }
-    ensures after { open_of line.new ways.new ≡ after_call K.Check.LEN K.Check.meaning (side_answer side) (Submit message.now) (open_of line.old ways.old) }
+    ensures printed { IfOk result (λ s. string_bytes s ≡ printed_call K.Check.LEN K.Check.meaning (side_answer side) (Submit message.now) (open_of line.old media.old)) }
+    ensures after { open_of line.new media.new ≡ after_call K.Check.LEN K.Check.meaning (side_answer side) (Submit message.now) (open_of line.old media.old) }
 {
     let mut place = [FILL; PLACE];
     let result = line.submit(
         side,
         message,
-        &mut ways.eastward,
-        &mut ways.westward,
+        &mut media.eastward,
+        &mut media.westward,
         &mut place,
     );
     reported(heap, result, &place)
@@ -44,42 +44,42 @@ pub(crate) fn submit<K: Check>(
 pub(crate) fn timeout<K: Check>(
     heap: Global,
     line: &mut Line<K>,
-    ways: &mut Ways<'_, '_>,
+    media: &mut LineMedia<'_, '_>,
     side: u8,
 ) -> Result<String, AllocError>
-    ensures printed { IfOk result (λ s. string_bytes s ≡ printed_call K.Check.LEN K.Check.meaning (side_answer side) Expire (open_of line.old ways.old)) }
-    ensures after { open_of line.new ways.new ≡ after_call K.Check.LEN K.Check.meaning (side_answer side) Expire (open_of line.old ways.old) }
+    ensures printed { IfOk result (λ s. string_bytes s ≡ printed_call K.Check.LEN K.Check.meaning (side_answer side) Expire (open_of line.old media.old)) }
+    ensures after { open_of line.new media.new ≡ after_call K.Check.LEN K.Check.meaning (side_answer side) Expire (open_of line.old media.old) }
 {
     let mut place = [FILL; PLACE];
-    let result = line.timeout(side, &mut ways.eastward, &mut ways.westward, &mut place);
+    let result = line.timeout(side, &mut media.eastward, &mut media.westward, &mut place);
     reported(heap, result, &place)
 }
 
 pub(crate) fn arrive<K: Check>(
     heap: Global,
     line: &mut Line<K>,
-    ways: &mut Ways<'_, '_>,
+    media: &mut LineMedia<'_, '_>,
     side: u8,
 ) -> Result<String, AllocError>
-    ensures printed { IfOk result (λ s. string_bytes s ≡ printed_call K.Check.LEN K.Check.meaning (side_answer side) Arrive (open_of line.old ways.old)) }
-    ensures after { open_of line.new ways.new ≡ after_call K.Check.LEN K.Check.meaning (side_answer side) Arrive (open_of line.old ways.old) }
+    ensures printed { IfOk result (λ s. string_bytes s ≡ printed_call K.Check.LEN K.Check.meaning (side_answer side) Arrive (open_of line.old media.old)) }
+    ensures after { open_of line.new media.new ≡ after_call K.Check.LEN K.Check.meaning (side_answer side) Arrive (open_of line.old media.old) }
 {
     let mut place = [FILL; PLACE];
-    let result = line.arrive(side, &mut ways.eastward, &mut ways.westward, &mut place);
+    let result = line.arrive(side, &mut media.eastward, &mut media.westward, &mut place);
     reported(heap, result, &place)
 }
 
 pub(crate) fn read<K: Check>(
     heap: Global,
     line: &mut Line<K>,
-    ways: &Ways<'_, '_>,
+    media: &LineMedia<'_, '_>,
     side: u8,
     place: &mut [u8],
 ) -> Result<String, AllocError>
-    ensures printed { IfOk result (λ s. string_bytes s ≡ printed_call K.Check.LEN K.Check.meaning (side_answer side) (ReadOut (length place.old)) (open_of line.old ways.now)) }
-    ensures after { open_of line.new ways.now ≡ after_call K.Check.LEN K.Check.meaning (side_answer side) (ReadOut (length place.old)) (open_of line.old ways.now) }
+    ensures printed { IfOk result (λ s. string_bytes s ≡ printed_call K.Check.LEN K.Check.meaning (side_answer side) (ReadOut (length place.old)) (open_of line.old media.now)) }
+    ensures after { open_of line.new media.now ≡ after_call K.Check.LEN K.Check.meaning (side_answer side) (ReadOut (length place.old)) (open_of line.old media.now) }
 {
-    match line.read_out(side, &ways.eastward, &ways.westward, place) {
+    match line.read_out(side, &media.eastward, &media.westward, place) {
         Ok(length) => message(heap, &place[..length]),
         Err(why) => refused(heap, why),
     }
@@ -88,13 +88,13 @@ pub(crate) fn read<K: Check>(
 pub(crate) fn collect<K: Check>(
     heap: Global,
     line: &mut Line<K>,
-    ways: &Ways<'_, '_>,
+    media: &LineMedia<'_, '_>,
     side: u8,
 ) -> Result<String, AllocError>
-    ensures printed { IfOk result (λ s. string_bytes s ≡ printed_call K.Check.LEN K.Check.meaning (side_answer side) Collect (open_of line.old ways.now)) }
-    ensures after { open_of line.new ways.now ≡ after_call K.Check.LEN K.Check.meaning (side_answer side) Collect (open_of line.old ways.now) }
+    ensures printed { IfOk result (λ s. string_bytes s ≡ printed_call K.Check.LEN K.Check.meaning (side_answer side) Collect (open_of line.old media.now)) }
+    ensures after { open_of line.new media.now ≡ after_call K.Check.LEN K.Check.meaning (side_answer side) Collect (open_of line.old media.now) }
 {
-    match line.collect(side, &ways.eastward, &ways.westward) {
+    match line.collect(side, &media.eastward, &media.westward) {
         Ok(outcome) => {
             let number = u8::from(outcome);
             format!(in heap; "outcome={number}\n")
@@ -106,14 +106,14 @@ pub(crate) fn collect<K: Check>(
 pub(crate) fn change_settings<K: Check>(
     heap: Global,
     line: &mut Line<K>,
-    ways: &Ways<'_, '_>,
+    media: &LineMedia<'_, '_>,
     side: u8,
     frame: &[u8],
 ) -> Result<String, AllocError>
-    ensures printed { IfOk result (λ s. string_bytes s ≡ printed_call K.Check.LEN K.Check.meaning (side_answer side) (Set frame.now) (open_of line.old ways.now)) }
-    ensures after { open_of line.new ways.now ≡ after_call K.Check.LEN K.Check.meaning (side_answer side) (Set frame.now) (open_of line.old ways.now) }
+    ensures printed { IfOk result (λ s. string_bytes s ≡ printed_call K.Check.LEN K.Check.meaning (side_answer side) (Set frame.now) (open_of line.old media.now)) }
+    ensures after { open_of line.new media.now ≡ after_call K.Check.LEN K.Check.meaning (side_answer side) (Set frame.now) (open_of line.old media.now) }
 {
-    match line.change_settings(side, &ways.eastward, &ways.westward, frame) {
+    match line.change_settings(side, &media.eastward, &media.westward, frame) {
         Ok(()) => String::from_str(heap, "set\n"),
         Err(why) => refused(heap, why),
     }
@@ -131,22 +131,22 @@ pub(crate) fn state<K: Check>(heap: Global, line: &Line<K>, side: u8) -> Result<
 // Opens a line over its media, unless it is refused.
 pub(crate) fn open<K: Check>(
     heap: Global,
-    ways: &mut Ways<'_, '_>,
+    media: &mut LineMedia<'_, '_>,
     west: &[u8],
     east: &[u8],
 ) -> (Option<Line<K>>, Result<String, AllocError>)
-    ensures printed { IfOk result.1 (λ s. string_bytes s ≡ opening_line K.Check.meaning (opening_over west.now east.now ways.old) (way_of ways.old.eastward) (way_of ways.old.westward)) }
-    ensures ends { option_map ends_of result.0 ≡ ends_opened (opening_over west.now east.now ways.old) }
-    ensures eastward { way_of ways.new.eastward ≡ passed (burst_of K.Check.meaning (sent_at_opening West (opening_over west.now east.now ways.old))) (way_of ways.old.eastward) }
-    ensures westward { way_of ways.new.westward ≡ passed (burst_of K.Check.meaning (sent_at_opening East (opening_over west.now east.now ways.old))) (way_of ways.old.westward) }
+    ensures printed { IfOk result.1 (λ s. string_bytes s ≡ opening_line K.Check.meaning (opening_over west.now east.now media.old) (medium_of media.old.eastward) (medium_of media.old.westward)) }
+    ensures ends { option_map ends_of result.0 ≡ ends_opened (opening_over west.now east.now media.old) }
+    ensures eastward { medium_of media.new.eastward ≡ passed (burst_of K.Check.meaning (sent_at_opening West (opening_over west.now east.now media.old))) (medium_of media.old.eastward) }
+    ensures westward { medium_of media.new.westward ≡ passed (burst_of K.Check.meaning (sent_at_opening East (opening_over west.now east.now media.old))) (medium_of media.old.westward) }
 {
     let mut west_place = [FILL; PLACE];
     let mut east_place = [FILL; PLACE];
     match Line::<K>::open(
         west,
         east,
-        &mut ways.eastward,
-        &mut ways.westward,
+        &mut media.eastward,
+        &mut media.westward,
         &mut west_place,
         &mut east_place,
     ) {

@@ -64,7 +64,10 @@ fn line_faults_are_told(rt: HostRuntime) -> Result<(), AllocError> {
             "line arrive 256",
             "a side is west, east or a number from 0 to 255",
         ),
-        ("line open sum - 'OK", "BYTES are pairs of hexadecimal digits"),
+        (
+            "line open sum - 'OK",
+            "BYTES are pairs of hexadecimal digits",
+        ),
         ("line open sum - - queue:1", "too few words"),
         ("line read west 96 x", "too many words"),
         ("line submit 255 'OK", ""),

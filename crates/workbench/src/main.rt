@@ -7,7 +7,7 @@ mod memory;
 
 use crate::answering::answer_lines;
 use crate::memory::{bursts, packed_medium};
-use bench::joined::{JoinedLine, Ways};
+use bench::joined::{JoinedLine, LineMedia};
 use bench::run::Workbench;
 use end_bench::ends::Ends;
 use named_media::chosen::ChosenMedium;
@@ -27,14 +27,17 @@ fn main(rt: HostRuntime) -> io::Result<()> {
         m: NamedMedium::over(ChosenMedium::over(bursts(heap)?, &mut m_packed, bursts(heap)?)),
         n: NamedMedium::over(ChosenMedium::over(bursts(heap)?, &mut n_packed, bursts(heap)?)),
     };
-    let ways = Ways {
+    let line_media = LineMedia {
         eastward: ChosenMedium::over(bursts(heap)?, &mut eastward_packed, bursts(heap)?),
         westward: ChosenMedium::over(bursts(heap)?, &mut westward_packed, bursts(heap)?),
     };
     let mut bench = Workbench {
         ends: Ends::new(),
         media,
-        joined: JoinedLine { line: None, ways },
+        joined: JoinedLine {
+            line: None,
+            media: line_media,
+        },
     };
     let done = answer_lines(heap, &mut input, &mut output, &mut bench);
     // Slips that are kept go back, also where the output failed.

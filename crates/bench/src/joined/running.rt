@@ -38,21 +38,21 @@ fn submit(
     ensures printed { IfOk result (λ s. string_bytes s ≡ printed (joined_of joined.old) (lines.at side (lines.submit message.now))) }
     ensures after { joined_of joined.new ≡ after (lines.at side (lines.submit message.now)) (joined_of joined.old) }
 {
-    if_open!(heap, joined, line => line_calls::submit(heap, line, &mut joined.ways, side, message))
+    if_open!(heap, joined, line => line_calls::submit(heap, line, &mut joined.media, side, message))
 }
 
 fn timeout(heap: Global, joined: &mut JoinedLine<'_, '_>, side: u8) -> Result<String, AllocError>
     ensures printed { IfOk result (λ s. string_bytes s ≡ printed (joined_of joined.old) (lines.at side lines.timeout)) }
     ensures after { joined_of joined.new ≡ after (lines.at side lines.timeout) (joined_of joined.old) }
 {
-    if_open!(heap, joined, line => line_calls::timeout(heap, line, &mut joined.ways, side))
+    if_open!(heap, joined, line => line_calls::timeout(heap, line, &mut joined.media, side))
 }
 
 fn arrive(heap: Global, joined: &mut JoinedLine<'_, '_>, side: u8) -> Result<String, AllocError>
     ensures printed { IfOk result (λ s. string_bytes s ≡ printed (joined_of joined.old) (lines.at side lines.arrive)) }
     ensures after { joined_of joined.new ≡ after (lines.at side lines.arrive) (joined_of joined.old) }
 {
-    if_open!(heap, joined, line => line_calls::arrive(heap, line, &mut joined.ways, side))
+    if_open!(heap, joined, line => line_calls::arrive(heap, line, &mut joined.media, side))
 }
 
 fn read(
@@ -64,14 +64,14 @@ fn read(
     ensures printed { IfOk result (λ s. string_bytes s ≡ printed (joined_of joined.old) (lines.at side (lines.read (length place.old)))) }
     ensures after { joined_of joined.new ≡ after (lines.at side (lines.read (length place.old))) (joined_of joined.old) }
 {
-    if_open!(heap, joined, line => line_calls::read(heap, line, &joined.ways, side, place))
+    if_open!(heap, joined, line => line_calls::read(heap, line, &joined.media, side, place))
 }
 
 fn collect(heap: Global, joined: &mut JoinedLine<'_, '_>, side: u8) -> Result<String, AllocError>
     ensures printed { IfOk result (λ s. string_bytes s ≡ printed (joined_of joined.old) (lines.at side lines.collect)) }
     ensures after { joined_of joined.new ≡ after (lines.at side lines.collect) (joined_of joined.old) }
 {
-    if_open!(heap, joined, line => line_calls::collect(heap, line, &joined.ways, side))
+    if_open!(heap, joined, line => line_calls::collect(heap, line, &joined.media, side))
 }
 
 fn change_settings(
@@ -83,7 +83,7 @@ fn change_settings(
     ensures printed { IfOk result (λ s. string_bytes s ≡ printed (joined_of joined.old) (lines.at side (lines.settings frame.now))) }
     ensures after { joined_of joined.new ≡ after (lines.at side (lines.settings frame.now)) (joined_of joined.old) }
 {
-    if_open!(heap, joined, line => line_calls::change_settings(heap, line, &joined.ways, side, frame))
+    if_open!(heap, joined, line => line_calls::change_settings(heap, line, &joined.media, side, frame))
 }
 
 fn state(heap: Global, joined: &JoinedLine<'_, '_>, side: u8) -> Result<String, AllocError>
@@ -110,16 +110,16 @@ fn open(
     ensures printed { IfOk result (λ s. string_bytes s ≡ printed (joined_of joined.old) (lines.opening kind west.now east.now eastward westward)) }
     ensures after { joined_of joined.new ≡ after (lines.opening kind west.now east.now eastward westward) (joined_of joined.old) }
 {
-    joined.ways.eastward.restart(eastward);
-    joined.ways.westward.restart(westward);
+    joined.media.eastward.restart(eastward);
+    joined.media.westward.restart(westward);
     match kind {
         Kind::Sum => {
-            let (line, answer) = line_calls::open::<Sum>(heap, &mut joined.ways, west, east);
+            let (line, answer) = line_calls::open::<Sum>(heap, &mut joined.media, west, east);
             joined.line = line.map(OpenLine::Sum);
             answer
         }
         Kind::Xor => {
-            let (line, answer) = line_calls::open::<Xor>(heap, &mut joined.ways, west, east);
+            let (line, answer) = line_calls::open::<Xor>(heap, &mut joined.media, west, east);
             joined.line = line.map(OpenLine::Xor);
             answer
         }

@@ -12,7 +12,7 @@ use Rattle.bench.proofs.line_calls.arrive.Goals as goal
 
 pub returns-clause-printed : goal.returns-clause-printed
 returns-clause-printed g c =
-    let l = line_of (open_of c.args.line.now c.args.ways.now) in
+    let l = line_of (open_of c.args.line.now c.args.media.now) in
     let k = g.K.Check in
     IfOk-weaker c.reported.result _ _
     (λ s e. e ∙ reports Arrive c.arrive-result.result _ _ (λ s. letter_of (reading k.LEN k.meaning (first (out_of (across s) l)))) (λ s. unless (arrival_rules (out_of (across s) l)) (arrival k.LEN k.meaning (end_at s l) (first (out_of (across s) l)))) (λ s. refl) (λ s. refl) (λ s. refl) c.args.side c.arrive-result.ensures)

@@ -10,7 +10,7 @@ use Rattle.bench.proofs.line_calls.submit.Goals as goal
 
 pub returns-clause-printed : goal.returns-clause-printed
 returns-clause-printed g c =
-    let l = line_of (open_of c.args.line.now c.args.ways.now) in
+    let l = line_of (open_of c.args.line.now c.args.media.now) in
     IfOk-weaker c.reported.result _ _ (λ s e. e ∙ reports (Submit c.args.message.now) c.submit-result.result _ _ (λ s. None) (λ s. submission (end_at s l) c.args.message.now) (λ s. refl) (λ s. refl) (λ s. refl) c.args.side c.submit-result.ensures) c.reported.ensures
 
 pub returns-clause-after : goal.returns-clause-after

@@ -10,7 +10,7 @@ use Rattle.bench.proofs.line_calls.timeout.Goals as goal
 
 pub returns-clause-printed : goal.returns-clause-printed
 returns-clause-printed g c =
-    let l = line_of (open_of c.args.line.now c.args.ways.now) in
+    let l = line_of (open_of c.args.line.now c.args.media.now) in
     IfOk-weaker c.reported.result _ _ (λ s e. e ∙ reports Expire c.timeout-result.result _ _ (λ s. None) (λ s. unless (timeout_rules (out_of s l) (out_of (across s) l)) (timeout (end_at s l))) (λ s. refl) (λ s. refl) (λ s. refl) c.args.side c.timeout-result.ensures) c.reported.ensures
 
 pub returns-clause-after : goal.returns-clause-after
