@@ -32,9 +32,10 @@ const USAGE: &str = "usage: reference run
 fn main() -> ExitCode {
     let arguments: Vec<_> = env::args_os().skip(1).collect();
     let arguments: Vec<_> = arguments.iter().map(|argument| argument.to_str()).collect();
-    let mut output = BufWriter::new(io::stdout().lock());
+    let mut output = BufWriter::new(io::stdout());
     let done = match arguments[..] {
-        [Some("run")] => run::run(io::stdin().lock(), &mut output),
+        // The standard output writes each line out, so an answer is there before the next command is read.
+        [Some("run")] => run::run(io::stdin().lock(), io::stdout().lock()),
         [Some("generate"), Some("packets")] => output.write_all(&generate::packets()),
         [Some("generate"), Some("media")] => output.write_all(&generate::media()),
         [Some("generate"), Some("stations")] => output.write_all(&generate::stations()),
