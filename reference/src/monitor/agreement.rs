@@ -179,10 +179,14 @@ impl Agreement {
 
     /// Each side stored what the other's messages and its own answers say.
     pub fn check(&self, line: &Line) -> Result<(), String> {
+        self.check_stored(&[rest(line, 0)?, rest(line, 1)?])
+    }
+
+    /// The same, with what further read-outs alone would give at each side.
+    fn check_stored(&self, rests: &[Vec<Vec<u8>>; 2]) -> Result<(), String> {
         for near in [0, 1] {
             let far = 1 - near;
-            let rest = rest(line, far as u8)?;
-            let stored = self.sides[far].read.iter().chain(&rest);
+            let stored = self.sides[far].read.iter().chain(&rests[far]);
             if !self.to_be_stored(near).eq(stored) {
                 let far = ["west", "east"][far];
                 return Err(format!("{far} stored other messages than it should"));
@@ -207,4 +211,143 @@ fn rest(line: &Line, side: u8) -> Result<Vec<Vec<u8>>, String> {
         }
     }
     Err("read-outs go on and on".to_string())
+}
+
+#[cfg(test)]
+mod tests {
+    use super::*;
+    use crate::end::Report;
+    use crate::packet::{write, Kind};
+
+    /// A call, the packet that was sent, and how many messages got each outcome.
+    type Row<'a> = (&'a str, &'a str, [usize; 3]);
+
+    const NONE: [usize; 3] = [0, 0, 0];
+    const ARRIVED: [usize; 3] = [1, 0, 0];
+    const GIVEN_UP: [usize; 3] = [0, 1, 0];
+
+    const SUBMITTED: Row = ("submit x", "0x", NONE);
+    const ANSWERED: Row = ("answer", "A7", NONE);
+    const TIMEOUT: Row = ("timeout", "E", NONE);
+
+    const STORED: &str = "east stored other messages than it should";
+    const READ: &str = "a message was read out that should not be";
+    const LATE: &str = "a message has no outcome in its time";
+
+    fn report(sent: &str, outcomes: [usize; 3]) -> LineReport {
+        let mut place = [0xEE; crate::end::PLACE];
+        let sent = sent.as_bytes().split_first().map(|(&letter, field)| {
+            let length = write(Kind::Sum, letter, field, &mut place);
+            (letter, length.unwrap())
+        });
+        let timer = None;
+        LineReport {
+            report: Report {
+                sent,
+                timer,
+                outcomes,
+            },
+            place,
+            offer: None,
+        }
+    }
+
+    /// What is found in a transcript made by hand: west submits and takes
+    /// timeouts and arrivals, M being 2; east answers what arrives and is read
+    /// out. `rest` is what further read-outs at east would give.
+    fn found(rows: &[Row], rest: &[&str]) -> Result<(), String> {
+        let frames = [(); 2].map(|()| vec![1, 0, 6, 0, 200, 1, 44, 2, 8]);
+        let reports = [report("E", NONE), report("E", NONE)];
+        let mut agreement = Agreement::open(&frames, &reports)?;
+        for &(call, sent, outcomes) in rows {
+            let (call, message) = call.split_once(' ').unwrap_or((call, ""));
+            let message = message.as_bytes().to_vec();
+            let mut answer = Answer::Report(report(sent, outcomes));
+            let (side, action) = match call {
+                "submit" => (0, Action::Submit(message)),
+                "timeout" => (0, Action::Timeout),
+                "arrive" => (0, Action::Arrive),
+                "answer" => (1, Action::Arrive),
+                "read" => {
+                    answer = Answer::Message(message);
+                    (1, Action::Read(96))
+                }
+                other => panic!("{other}"),
+            };
+            agreement.call(&Call { side, action }, &Ok(answer))?;
+        }
+        let rest = rest.iter().map(|message| message.as_bytes().to_vec());
+        agreement.check_stored(&[Vec::new(), rest.collect()])
+    }
+
+    fn fails(rows: &[Row], rest: &[&str], promise: &str) {
+        assert_eq!(found(rows, rest), Err(promise.to_string()));
+    }
+
+    /// "x" arrives and is answered, then "y" under the other number.
+    const BOTH: [Row; 5] = [
+        SUBMITTED,
+        ("submit y", "", NONE),
+        ANSWERED,
+        ("arrive", "1y", ARRIVED),
+        ("answer", "B6", NONE),
+    ];
+
+    /// "x" is stored and given up, as no answer reaches west.
+    const ABANDONED: [Row; 5] = [
+        SUBMITTED,
+        ANSWERED,
+        TIMEOUT,
+        TIMEOUT,
+        ("timeout", "E", GIVEN_UP),
+    ];
+
+    #[test]
+    fn a_right_transcript_holds() {
+        assert_eq!(found(&BOTH, &["x", "y"]), Ok(()));
+        let read = ("read x", "", NONE);
+        let abandoned = [TIMEOUT, read, TIMEOUT, ABANDONED[4]];
+        assert_eq!(found(&[&BOTH[..], &abandoned].concat(), &["y"]), Ok(()));
+        assert_eq!(found(&ABANDONED, &["x"]), Ok(()));
+    }
+
+    #[test]
+    fn a_message_stored_twice_is_found() {
+        let read = ("read x", "", NONE);
+        fails(&[SUBMITTED, ANSWERED], &["x", "x"], STORED);
+        fails(&[SUBMITTED, ANSWERED, read], &["x"], STORED);
+        fails(&[SUBMITTED, ANSWERED, read, read], &[], READ);
+    }
+
+    #[test]
+    fn messages_stored_out_of_order_are_found() {
+        fails(&BOTH, &["y", "x"], STORED);
+        let read = [("read y", "", NONE), ("read x", "", NONE)];
+        fails(&[&BOTH[..], &read].concat(), &[], READ);
+    }
+
+    #[test]
+    fn an_answered_message_that_is_not_stored_is_found() {
+        fails(&ABANDONED, &[], STORED);
+        fails(&[SUBMITTED, ANSWERED], &[], STORED);
+    }
+
+    #[test]
+    fn a_stored_message_that_no_answer_bears_is_found() {
+        let abandoned = [&[SUBMITTED], &ABANDONED[2..]].concat();
+        assert_eq!(found(&abandoned, &[]), Ok(()));
+        fails(&abandoned, &["x"], STORED);
+        fails(&[SUBMITTED], &["x"], STORED);
+    }
+
+    /// Alone it has three timeouts, behind another one six.
+    #[test]
+    fn a_message_without_outcome_in_its_time_is_found() {
+        let alone = [SUBMITTED, TIMEOUT, TIMEOUT, TIMEOUT];
+        assert_eq!(found(&alone[..3], &[]), Ok(()));
+        fails(&alone, &[], LATE);
+        let behind = [&BOTH[..2], &[TIMEOUT; 2], &BOTH[2..4], &[TIMEOUT; 4]].concat();
+        assert_eq!(found(&behind[..behind.len() - 1], &["x"]), Ok(()));
+        fails(&behind, &["x"], LATE);
+    }
 }
