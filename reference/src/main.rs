@@ -58,12 +58,14 @@ fn main() -> ExitCode {
     }
 }
 
-/// Runs the monitor; a promise that fails is an error.
+/// Runs the monitor; a promise that fails is an error, and so is too little play.
 fn watch(seconds: &str, seed: &str, output: &mut impl Write) -> io::Result<()> {
     let number = |word: &str| word.parse().map_err(io::Error::other);
     if monitor::monitor(number(seconds)?, number(seed)?, output)? {
         return Ok(());
     }
     output.flush()?;
-    Err(io::Error::other("the line broke a promise"))
+    Err(io::Error::other(
+        "the line broke a promise, or cells were not met",
+    ))
 }

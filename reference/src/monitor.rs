@@ -2,7 +2,7 @@
 
 mod agreement;
 
-use crate::cells::cell;
+use crate::cells::{cell, REACHED};
 use crate::line::call::{Answer, Call};
 use crate::line::{Line, LineReport};
 use crate::play::{Opening, Player, SPECS};
@@ -18,7 +18,10 @@ use std::time::{Duration, Instant};
 const LONG: usize = 600;
 const SHORT: usize = 80;
 
-/// Plays for some seconds. Answers whether every promise held.
+/// A run of this many seconds or more has to meet every cell that a line reaches.
+const ENOUGH: u64 = 10;
+
+/// Plays for some seconds. Answers whether every promise held and enough was met.
 pub fn monitor(seconds: u64, seed: u64, output: &mut impl Write) -> io::Result<bool> {
     let end = Instant::now() + Duration::from_secs(seconds);
     let mut player = Player::new(Random::seeded(seed));
@@ -30,7 +33,11 @@ pub fn monitor(seconds: u64, seed: u64, output: &mut impl Write) -> io::Result<b
         }
     }
     write!(output, "{tally}")?;
-    Ok(true)
+    let missed = tally.missed();
+    for cell in &missed {
+        writeln!(output, "not met: {cell}")?;
+    }
+    Ok(missed.is_empty() || seconds < ENOUGH)
 }
 
 /// How often what was met.
@@ -56,6 +63,13 @@ impl Tally {
         if let Err(refusal) = answer {
             self.refusal(*refusal);
         }
+    }
+
+    /// The cells that a line reaches and that were not met.
+    fn missed(&self) -> Vec<&'static str> {
+        let mut missed = REACHED.to_vec();
+        missed.retain(|&cell| !self.cells.contains_key(cell));
+        missed
     }
 }
 
@@ -179,7 +193,7 @@ mod tests {
     use super::*;
 
     #[test]
-    fn every_promise_holds_and_every_refusal_is_met() {
+    fn every_promise_holds_and_every_refusal_and_cell_is_met() {
         let mut player = Player::new(Random::new());
         let mut tally = Tally::default();
         for _ in 0..5000 {
@@ -190,5 +204,9 @@ mod tests {
         let garbled = [2, 3, 5, 6, 7];
         assert_eq!(met, garbled.into_iter().chain(given).collect::<Vec<u8>>());
         assert!(tally.checks > 50_000, "{tally}");
+        assert_eq!(tally.cells.keys().collect::<Vec<_>>(), REACHED.each_ref());
+        assert!(tally.missed().is_empty());
+        tally.cells.remove(REACHED[20]);
+        assert_eq!(tally.missed(), [REACHED[20]]);
     }
 }
