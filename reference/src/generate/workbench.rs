@@ -266,6 +266,30 @@ mod tests {
         assert!(printed < 1_000_000, "{printed}");
     }
 
+    /// The gate runs the program on the whole sections too, of which the script has a part.
+    #[test]
+    fn whole_sections_have_their_thousands_of_lines() {
+        let begins = |line: &[u8], words: &[&[u8]]| {
+            let mut parts = line.split(|&byte| byte == b' ');
+            let first = parts.find(|part| !part.is_empty());
+            first.is_some_and(|first| words.contains(&first))
+        };
+        let count = |script: &[u8], words: &[&[u8]]| {
+            let answers = answers(script);
+            let lines = answers.iter().filter(|(line, _)| begins(line, words));
+            let errors = lines
+                .clone()
+                .filter(|(_, said)| said.starts_with("error: "));
+            (lines.count(), errors.count())
+        };
+        assert!(count(&packets(), &[b"packet"]).0 >= 2_000);
+        assert!(count(&media(), &[b"medium"]).0 >= 5_000);
+        let (lines, errors) = count(&stations(), &[b"settings", b"end"]);
+        assert!(lines - errors >= 10_000, "{lines} lines, {errors} errors");
+        let calls = stations::calls(&stations());
+        assert!(stations::refused_and_unchanged(&calls) > 500);
+    }
+
     #[test]
     fn the_examples_are_run_and_print_what_they_should() {
         let script = workbench();
