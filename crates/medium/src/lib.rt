@@ -37,9 +37,10 @@ pub trait Medium {
         ensures meaning { Offered (bursts self.old) burst.now result (bursts self.new) }
         ensures exact { offers self.old burst.now result self.new };
 
-    // How many bursts are under way.
+    // How many bursts are under way. Each has 1 to 104 bytes.
     fn count(&self) -> usize
-        ensures { result ≡ length (bursts self.now) };
+        ensures value { result ≡ length (bursts self.now) }
+        ensures carried { AllByRecursion Carried (bursts self.now) };
 
     // Whether a burst under way has a letter of the class.
     fn holds(&self, class: Class) -> bool

@@ -58,6 +58,7 @@ impl<'a> Medium for QueueMedium<'a> {
         }
     }
 
+    #[tactic(auto, using(crate::specs::AllCarried::all_carried))]
     fn count(&self) -> usize {
         self.ring.count()
     }

@@ -5,4 +5,5 @@
 pub mod altering;
 pub mod alternating;
 pub mod losing;
+pub mod pointed;
 pub mod through;
