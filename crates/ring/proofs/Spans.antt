@@ -21,7 +21,7 @@ held_within xs s w e =
     ∙ ap (λ i. around (take s.limit xs) i (min s.len (length (take s.limit xs)))) h
     ∙ ap (λ i. around (take s.limit xs) w.head i) l
 
-length_held : {X : Type 0} (xs : List X) (s : Span) → length (held xs s) ≡ min s.len (min (length xs) s.limit)
+pub length_held : {X : Type 0} (xs : List X) (s : Span) → length (held xs s) ≡ min s.len (min (length xs) s.limit)
 length_held xs s =
     let n = length-take s.limit xs in
     length_around (take s.limit xs) s.head s.len ∙ (let q : min s.len (length (take s.limit xs)) ≡ min s.len (min (length xs) s.limit) = omega arith in q)
