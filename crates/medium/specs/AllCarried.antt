@@ -9,7 +9,7 @@ use Rattle.medium.specs.Bursts.{Carried}
 use Rattle.medium.specs.Queue.{queued}
 use Rattle.medium.specs.Records.{bytes_of}
 
-records_carried : (rs : List Burst) → AllByRecursion Carried (map bytes_of rs)
+pub records_carried : (rs : List Burst) → AllByRecursion Carried (map bytes_of rs)
 records_carried [] = tt
 records_carried (r ∷ rs) = ((r.some, length_contents r.bytes), records_carried rs)
 
