@@ -1,2 +1,5 @@
 pub mod Altering
+pub mod Exact
 pub mod Lists
+pub mod Queued
+pub mod Written

@@ -1,3 +1,4 @@
+pub mod Fitting
 pub mod Rowed
 pub mod Same
 pub mod Walks

@@ -1,6 +1,6 @@
 -- What an altering medium hands its queue. Assumes nothing.
-use Rattle.std.proofs.Common.{◌≡◌, ℕ, ◌+◌, ◌-◌, ◌%◌, ◌<◌, ◌≤◌, ◌≢◌, true, cond, ◌&&◌, List, [], ◌∷◌, ◌++◌, length, get_or, take, set, replicate, sym, refl, ap, ◌∙◌, arith}
-use Rattle.std.proofs.lemmas.List.{take_all, take_at, get_or-take}
+use Rattle.std.proofs.Common.{◌≡◌, ℕ, ◌+◌, ◌-◌, ◌%◌, ◌<◌, ◌≤◌, ◌≢◌, true, cond, ◌&&◌, List, [], ◌∷◌, ◌++◌, length, get_or, take, set, replicate, sym, ap, ◌∙◌, arith}
+use Rattle.std.proofs.lemmas.List.{get_or-take}
 use Rattle.std.proofs.Math.Seq.{take-set-lt}
 use Rattle.medium.specs.declared.offer.Offer.{Offer}
 use Rattle.medium.specs.declared.offer.Offer.TheVariants.{Spoilt}
@@ -9,12 +9,13 @@ use Rattle.medium.specs.Bursts.{carried}
 use Rattle.medium.specs.Offered.{Offered}
 use Rattle.medium.specs.Queue.{queued, free, TakesIn}
 use Rattle.medium.proofs.Altering.{carried_set, altered_queued}
+use Rattle.medium.proofs.Written.{front_padded}
 use Rattle.stranger_media.specs.Altering.{one_more}
 
 -- p is the burst b with zeros behind it
 module _ (b p : List ℕ) (some : 0 < length b) (few : length b ≤ 104) (e : p ≡ take 104 b ++ replicate (104 - length b) 0) where
   front : take (length b) p ≡ b
-  front = ap (take (length b)) (e ∙ ap (λ xs. xs ++ replicate (104 - length b) 0) (take_all 104 b few)) ∙ take_at b (replicate (104 - length b) 0) (length b) refl
+  front = ap (take (length b)) e ∙ front_padded b few
 
   first : get_or p 0 0 ≡ get_or b 0 0
   first = sym (get_or-take (length b) p 0 0 some) ∙ ap (λ xs. get_or xs 0 0) front
