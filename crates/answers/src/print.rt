@@ -51,7 +51,8 @@ impl<T: fmt::Display> fmt::Display for OrNone<T> {
 pub fn wrong(heap: Global, fault: Fault) -> Result<String, AllocError>
     ensures { IfOk result (λ s. string_bytes s ≡ wrong fault) }
 {
-    format!(in heap; "error: {fault}\n")
+    let text = fault.text();
+    format!(in heap; "error: {text}\n")
 }
 
 // What is printed where the machine has no memory for a line.

@@ -1,5 +1,5 @@
 // What is wrong with a line that is not carried out.
-ghost use Rattle.std.specs.Prelude.{Some};
+ghost use Rattle.std.specs.Prelude.{◌≡◌, Some};
 ghost use Rattle.script_words.specs.Faults.{text};
 
 use std::fmt;
@@ -25,11 +25,11 @@ pub enum Fault {
     NoLine,
 }
 
-impl fmt::Display for Fault {
-    ghost output = { λ f. Some (text f) };
-
-    fn fmt<W: fmt::Write>(&self, f: &mut fmt::Formatter<W>) -> fmt::Result {
-        f.write_str(match self {
+impl Fault {
+    pub fn text(self) -> &'static str
+        ensures { result.now ≡ text self }
+    {
+        match self {
             Fault::UnknownCommand => "unknown command",
             Fault::TooFewWords => "too few words",
             Fault::Kind => "KIND is sum or xor",
@@ -48,6 +48,14 @@ impl fmt::Display for Fault {
             Fault::SlipKept => "a slip is kept",
             Fault::NoMedium => "no medium of that name is made",
             Fault::NoLine => "no line is open",
-        })
+        }
+    }
+}
+
+impl fmt::Display for Fault {
+    ghost output = { λ f. Some (text f) };
+
+    fn fmt<W: fmt::Write>(&self, f: &mut fmt::Formatter<W>) -> fmt::Result {
+        f.write_str(self.text())
     }
 }
