@@ -1,5 +1,5 @@
 -- A delivery that was taken to a place, read from there. Assumes nothing.
-use Rattle.std.proofs.Common.{◌≡◌, ℕ, ◌-◌, ◌≤◌, List, ◌++◌, length, take, drop, sym, ap, ◌∙◌, arith, length-append}
+use Rattle.std.proofs.Common.{◌≡◌, ℕ, ◌-◌, ◌≤◌, false, List, ◌++◌, length, take, drop, sym, ap, ◌∙◌, arith, length-append}
 use Rattle.std.proofs.lemmas.List.{take_at}
 use Rattle.packet.specs.Refusals.{gave}
 use Rattle.packet.proofs.Judging.{Passed, passed}
@@ -12,6 +12,9 @@ use Rattle.end_bench.specs.Calls.{take_line}
 module _ (s : Station) (n l b : ℕ) (place after : List ℕ) (told : gave (n, l, b) ≡ take_answer (length place) s) (put : after ≡ place_after s place) where
   rules_passed : Passed (take_rules (length place) s)
   rules_passed = (passed (take_rules (length place) s) _ _ told).0
+
+  pub not_out : s.out ≡ false
+  not_out = rules_passed.1.0
 
   length_is : n ≡ length (oldest_of s.held)
   length_is = ap (λ t. t.0) (sym (passed (take_rules (length place) s) _ _ told).1)
