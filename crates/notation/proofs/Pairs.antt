@@ -1,18 +1,30 @@
 -- Pairs of hexadecimal digits, read one after another. Assumes nothing.
-use Rattle.std.proofs.Common.{◌≡◌, ℕ, suc, ◌+◌, ◌-◌, ◌/◌, ◌%◌, ◌^◌, ◌<◌, ◌≤◌, true, false, eqb, List, [], ◌∷◌, ◌++◌, length, get_or, take, drop, Some, unwrap_or, sym, refl, ap, ◌∙◌, append_assoc, arith}
-use Rattle.std.proofs.lemmas.List.{flat_map_more, take_more, take_rest}
+use Rattle.std.proofs.Common.{◌≡◌, ℕ, suc, ◌+◌, ◌-◌, ◌/◌, ◌%◌, ◌^◌, ◌<◌, ◌≤◌, true, false, eqb, List, [], ◌∷◌, ◌++◌, length, get_or, take, drop, Some, unwrap_or, sym, refl, ap, ◌∙◌, append_assoc, append-nil, arith}
+use Rattle.std.proofs.lemmas.List.{flat_map_more, nil_from_length, take_more, take_rest}
 use Rattle.std.proofs.lemmas.Bool.{and_right, ne_eqb}
-use Rattle.std.specs.Str.{bytes_eq}
+use Rattle.std.proofs.lemmas.Grind.{flat_map-append}
+use Rattle.std.proofs.lemmas.Str.{IsUtf8-from_ascii}
+use Rattle.std.proofs.lemmas.Str.Ascii.{IsAscii-nil, IsAscii-cons}
+use Rattle.std.proofs.Output.{has_written_append, has_written_of_eq}
+use Rattle.std.specs.Str.{bytes_eq, IsAscii, IsUtf8}
 use Rattle.std.proofs.lemmas.Bool.Decides.{nat_tests}
 use Rattle.std.specs.List.{list_all}
 use Rattle.std.proofs.lemmas.Fmt.{hex_byte}
-use Rattle.std.specs.Fmt.{padded_integral, format_spec, digits, digit_glyph}
+use Rattle.std.specs.Fmt.{padded_integral, format_spec, digits, digit_glyph, HasWritten}
+use Rattle.std.specs.declared.fmt.Formatter.{Formatter}
 use Rattle.notation.specs.Hex.{pair, digit, is_digit, are_pairs, decoded, byte, figure, pairs, hex, unhex}
 
 two_first : (xs : List ℕ) → 2 ≤ length xs → xs ≡ get_or xs 0 0 ∷ get_or xs 1 0 ∷ drop 2 xs
 two_first [] h = absurd (omega arith)
 two_first (x ∷ []) h = absurd (omega arith)
 two_first (x ∷ y ∷ xs) h = refl
+
+pub four_first : (xs : List ℕ) → 4 ≤ length xs → xs ≡ get_or xs 0 0 ∷ get_or xs 1 0 ∷ get_or xs 2 0 ∷ get_or xs 3 0 ∷ take (length xs - 4) (drop 4 xs)
+four_first [] h = absurd (omega arith)
+four_first (x ∷ []) h = absurd (omega arith)
+four_first (x ∷ y ∷ []) h = absurd (omega arith)
+four_first (x ∷ y ∷ z ∷ []) h = absurd (omega arith)
+four_first (x ∷ y ∷ z ∷ u ∷ xs) h = rw take_rest refl
 
 -- one more pair is read
 pub decoded_more : (front xs all : List ℕ) → 2 ≤ length xs → front ++ decoded xs ≡ all → (front ++ byte (get_or xs 0 0) (get_or xs 1 0) ∷ []) ++ decoded (take (length xs - 2) (drop 2 xs)) ≡ all
@@ -25,6 +37,9 @@ digit_small c = grind (arith, nat_tests)
 -- the digit that is printed for a value reads as that value
 pub figure_read : (n : ℕ) → n < 16 → digit (figure n) ≡ Some n
 figure_read n h = grind (arith, nat_tests)
+
+pub figure_ascii : (n : ℕ) → n < 16 → figure n < 128
+figure_ascii n h = grind (arith, nat_tests)
 
 -- one more byte is printed
 pub pairs_more : (xs : List ℕ) (i : ℕ) → i < length xs → pairs (take i xs) ++ pair (get_or xs i 0) ≡ pairs (take (i + 1) xs)
@@ -42,6 +57,41 @@ pair_shown b h =
 
 abbrev pub Bytes : List ℕ → Type 0
 Bytes xs = (i : ℕ) → get_or xs i 0 < 256
+
+pairs_ascii : (x : ℕ) (xs : List ℕ) → x < 256 → IsAscii (pairs xs) → IsAscii (pairs (x ∷ xs))
+pairs_ascii x xs h rest =
+    let high = figure_ascii (x / 16) (omega arith) in
+    let low = figure_ascii (x % 16) (omega arith) in
+    IsAscii-cons (figure (x / 16)) (figure (x % 16) ∷ pairs xs) high (IsAscii-cons (figure (x % 16)) (pairs xs) low rest)
+
+-- the digits of four bytes are text
+pub four_text : (a b c d : ℕ) → a < 256 → b < 256 → c < 256 → d < 256 → IsUtf8 (pairs (a ∷ b ∷ c ∷ d ∷ []))
+four_text a b c d p q r s =
+    IsUtf8-from_ascii (pairs (a ∷ b ∷ c ∷ d ∷ [])) (pairs_ascii a (b ∷ c ∷ d ∷ []) p (pairs_ascii b (c ∷ d ∷ []) q (pairs_ascii c (d ∷ []) r (pairs_ascii d [] s IsAscii-nil))))
+
+-- of the pairs of `all`, those of `rest` are still to be written
+abbrev pub AreLeft : {W : Type 0} → (W → List ℕ → W → Type 0) → Formatter W → List ℕ → List ℕ → Formatter W → Type 0
+AreLeft took f all rest g = (done : List ℕ) × HasWritten took f done g × (done ++ pairs rest ≡ pairs all)
+
+-- `text`, the pairs of `front`, is written
+pub left_less : {W : Type 0} (took : W → List ℕ → W → Type 0) (f g h : Formatter W) (all rest front after text : List ℕ) → AreLeft took f all rest g → HasWritten took g text h → text ≡ pairs front → rest ≡ front ++ after → AreLeft took f all after h
+left_less took f g h all rest front after text left wrote shown parts = (
+  left.0 ++ pairs front,
+  has_written_append _ _ _ _ _ _ left.1 (has_written_of_eq _ _ _ _ _ shown wrote),
+  append_assoc left.0 (pairs front) (pairs after)
+      ∙ ap (λ l. left.0 ++ l) (sym (flat_map-append pair front after) ∙ ap pairs (sym parts))
+      ∙ left.2,
+)
+
+hex_some : (xs : List ℕ) → 0 < length xs → pairs xs ≡ hex xs
+hex_some [] h = absurd (omega arith)
+hex_some (x ∷ xs) h = refl
+
+-- nothing is left
+pub left_none : {W : Type 0} (took : W → List ℕ → W → Type 0) (f g : Formatter W) (all rest : List ℕ) → AreLeft took f all rest g → length rest ≡ 0 → 0 < length all → HasWritten took f (hex all) g
+left_none took f g all rest left none some =
+    let end : rest ≡ [] = nil_from_length rest (omega arith) in
+    has_written_of_eq _ _ _ _ _ (rw (end, append-nil) at left.2 ∙ hex_some all some) left.1
 
 halves : (b : ℕ) → b < 256 → byte (figure (b / 16)) (figure (b % 16)) ≡ b
 halves b h =

@@ -1,7 +1,7 @@
 // Bytes in hexadecimal.
-ghost use Rattle.std.specs.Prelude.{◌≡◌, ◌<◌, true, IfOk, Some, string_bytes};
+ghost use Rattle.std.specs.Prelude.{◌≡◌, ◌<◌, [], ◌∷◌, IfOk, Some};
 ghost use Rattle.std.specs.List.{list_all};
-ghost use Rattle.notation.specs.Hex.{digit, is_digit, byte, are_pairs, decoded, pattern, figure, hex, unhex};
+ghost use Rattle.notation.specs.Hex.{digit, is_digit, byte, are_pairs, decoded, pattern, figure, pairs, hex, unhex};
 
 use std::alloc::{AllocError, Global};
 use std::fmt;
@@ -69,6 +69,33 @@ pub fn pattern(word: &[u8]) -> Option<u32>
     Some(bits)
 }
 
+// The upper-case digit of a value below 16.
+fn figure(n: u8) -> u8
+    requires { n < 16 }
+    ensures { result ≡ figure n }
+{
+    match n {
+        0..=9 => b'0' + n,
+        _ => b'A' + (n - 10),
+    }
+}
+
+// The digits of four bytes.
+fn figures(a: u8, b: u8, c: u8, d: u8) -> [u8; 8]
+    ensures { result ≡ pairs (a ∷ b ∷ c ∷ d ∷ []) }
+{
+    [
+        figure(a / 16),
+        figure(a % 16),
+        figure(b / 16),
+        figure(b % 16),
+        figure(c / 16),
+        figure(c % 16),
+        figure(d / 16),
+        figure(d % 16),
+    ]
+}
+
 // Bytes to be printed as pairs of upper-case digits, and as `-` where there are none.
 #[derive(Clone, Copy)]
 pub struct Hex<'a> {
@@ -93,7 +120,13 @@ impl fmt::Display for Hex<'_> {
         if self.bytes.is_empty() {
             return f.write_str("-");
         }
-        for &b in self.bytes {
+        // Each write has a cost of its own, so four bytes go in one; at most three are left.
+        let mut rest = self.bytes;
+        while let [a, b, c, d, after @ ..] = rest {
+            f.write_str(str::from_utf8(&figures(*a, *b, *c, *d)).unwrap())?;
+            rest = after;
+        }
+        for &b in rest {
             write!(f, "{b:02X}")?;
         }
         Ok(())
