@@ -15,6 +15,7 @@ mod tests {
     use stranger_media::altering::AlteringMedium;
     use stranger_media::alternating::AlternatingMedium;
     use stranger_media::losing::LosingMedium;
+    use stranger_media::pointed::under_way;
     use stranger_media::through::through_to_queue;
 
     #[test]
@@ -110,9 +111,11 @@ mod tests {
         let mut losing = LosingMedium;
         assert_eq!(rt; losing.offer(b"abc"), Offer::Spoilt);
         assert_eq!(rt; losing.take(&mut place), 0);
+        assert_eq!(rt; under_way(&losing), 0);
         let mut queue = QueueMedium::over(&mut memory);
         assert_eq!(rt; through_to_queue(&mut queue, 1, b"lost"), Offer::Spoilt);
         assert_eq!(rt; through_to_queue(&mut queue, 2, b"whole"), Offer::Whole);
         assert_eq!(rt; queue.count(), 1);
+        assert_eq!(rt; under_way(&queue), 1);
     }
 }
